@@ -1,0 +1,10 @@
+pub mod Logic
+pub mod Queue
+pub mod Acquiring
+pub mod Waking
+pub mod Rules
+pub mod Valid
+pub mod History
+pub mod Cells
+pub mod Validity
+pub mod Literal

@@ -1,0 +1,9 @@
+pub mod Sizes
+pub mod Basics
+pub mod Objects
+pub mod Waits
+pub mod Snapshot
+pub mod Calls
+pub mod Layout
+pub mod Steps
+pub mod ValidCells

@@ -1,0 +1,92 @@
+-- A call's outcome: by the library on lent tables, as every public contract states it, and by the reference (01: the fresh
+-- reckoning) on a state. Making, and histories.
+use mathlib.Core.Bool.{Bool, true, false, not, cond}
+use mathlib.Core.List.{List, [], _∷_, _++_}
+use mathlib.Core.Option.{Option, none, some}
+use Prim.Native.Nat.{ℕ, _+_, _*_}
+use lib.ListN.{length, replicate}
+use lib.Dec.{eqb}
+use Rattle.model.specs.Sizes.{objectPlaces, waitPlaces}
+use Rattle.model.specs.Basics.{maybe, overwrite, number, done, corrupt, listShort}
+use Rattle.model.specs.Objects.{cleared}
+use Rattle.model.specs.Waits.{State, initial, objectAt, putObject, Report, Woken, wakeByWalk, wakeBySearch}
+use Rattle.model.specs.Calls.{Operation, Lent, lend, Call, least, tooShort, Refusal, refusal, refusals, Change, change, Fits}
+use Rattle.model.specs.Layout.{objectSize, waitSize, tableLength, encode, view, validTables}
+
+-- "equal after each call in: the answer and all numbers with it; the reports (ticket, answer, index) in order ..; every
+-- cell of lists and buffers lent for writing; every value that the reckoning holds, place by place". What is held is a
+-- state, or a list of cells.
+pub record Outcome (Held : Type 0) : Type 0 where
+  pub answer : ℕ
+  pub first : ℕ
+  pub second : ℕ
+  pub reports : List Report
+  pub lent : Lent
+  pub held : Held
+
+-- "Refused ..: that answer, nothing altered"; "Numbers besides the answer are 0 where no rule gives them."
+abbrev pub unaltered : {Held : Type 0} → ℕ → Lent → Held → Outcome Held
+unaltered n l h = record { answer = n; first = 0; second = 0; reports = []; lent = l; held = h }
+
+-- "Order: 9" (`tableStep`) ", 12, 1, then 2, 3, 7, 10"
+abbrev pub conditions : Call → State → List Refusal
+conditions c s = refusal listShort (tooShort (least (c .operation)) (c .lent)) ∷ refusals (c .operation) s
+
+unfoldable pub firstRefusal : List Refusal → Option ℕ
+firstRefusal [] = none
+firstRefusal (r ∷ rs) = let later = firstRefusal rs in cond (r .holds) (some (r .number)) later
+
+-- "It receives one record a woken wait (ticket, answer, index) from its front; the rest is unaltered."
+unfoldable pub records : List Report → List ℕ
+records [] = []
+records (r ∷ rs) = r .ticket ∷ r .answer ∷ r .index ∷ records rs
+
+abbrev pub written : Lent → List Report → List ℕ → Lent
+written l rs text = lend (overwrite (records rs) (l .wake)) (overwrite text (l .buffer))
+
+-- "A pulse then clears its event."
+abbrev pub clear : ℕ → State → State
+clear h s = putObject s h (cleared (objectAt (s .objects) h))
+
+abbrev pub completed : (List ℕ → State → Woken) → Lent → Change → Outcome State
+completed wakeUp l d = let v = wakeUp (d .changed) (d .state) in let rs = d .reports ++ v .reports in
+    record { answer = d .answer; first = d .first; second = d .second; reports = rs; lent = written l rs (d .text); held = clear (d .clears) (v .state) }
+
+abbrev pub perform : (List ℕ → State → Woken) → State → Call → Outcome State
+perform wakeUp s c = maybe (firstRefusal (conditions c s)) (completed wakeUp (c .lent) (change (c .operation) s)) (λ n. unaltered n (c .lent) s)
+
+-- THE LIBRARY on states, and THE REFERENCE
+unfoldable pub libraryStep : State → Call → Outcome State
+libraryStep s c = perform wakeByWalk s c
+
+unfoldable pub referenceStep : State → Call → Outcome State
+referenceStep s c = perform wakeBySearch s c
+
+-- THE LIBRARY ON TABLES. "9 damaged tables: nothing altered", first in the order
+abbrev pub onTables : Outcome State → Outcome (List ℕ)
+onTables o = record { answer = o .answer; first = o .first; second = o .second; reports = o .reports; lent = o .lent; held = encode (o .held) }
+
+unfoldable pub tableStep : List ℕ → Call → Outcome (List ℕ)
+tableStep t c = cond (validTables t) (onTables (libraryStep (view t) c)) (unaltered (number corrupt) (c .lent) t)
+
+-- HISTORIES. "a list of calls, each on the tables as the one before left them"
+unfoldable pub run : {Held Step : Type 0} → (Held → Step → Outcome Held) → Held → List Step → List (Outcome Held)
+run step h [] = []
+run step h (c ∷ cs) = let o = step h c in o ∷ run step (o .held) cs
+
+-- MAKING. "Making needs only the lengths; else 9." "Newly made tables are empty, next ticket 1."
+abbrev pub initialTables : List ℕ
+initialTables = 1 ∷ replicate (objectSize * objectPlaces + waitSize * waitPlaces) 0
+
+unfoldable pub makeTables : List ℕ → Outcome (List ℕ)
+makeTables t = cond (eqb (length t) tableLength) (unaltered (number done) (lend [] []) initialTables) (unaltered (number corrupt) (lend [] []) t)
+
+-- "Making starts a new history": a row of histories is a list of calls in which `none` stands for a making
+abbrev pub tableEntry : List ℕ → Option Call → Outcome (List ℕ)
+tableEntry t e = maybe e (makeTables t) (λ c. tableStep t c)
+
+abbrev pub referenceEntry : State → Option Call → Outcome State
+referenceEntry s e = maybe e (unaltered (number done) (lend [] []) initial) (λ c. referenceStep s c)
+
+abbrev pub EntryFits : Option Call → Type 0
+EntryFits e = maybe e (Unit {0}) Fits
