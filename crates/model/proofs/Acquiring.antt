@@ -13,7 +13,7 @@ use borrow.Author.Tests.{ltb-true, ltb-false, eqb-true, eqb-false, lt-ltb}
 use Rattle.model.specs.Basics.{maybe, isSome, member}
 use Rattle.model.specs.Sizes.{mutexCeiling}
 use Rattle.model.specs.Objects.{Object, empty, semaphore, mutex, event, occupied, signaled, acquired}
-use Rattle.model.specs.Waits.{Mode, any, all, Wait, objectAt, putAt, Grant, lowestSignaled, allSignaled, look, attempt, servable, acquireAt, acquireEach, namedBy}
+use Rattle.model.specs.Waits.{Mode, any, all, Wait, objectAt, putAt, Grant, lowestSignaled, allSignaled, look, attempt, servable, acquireEach, namedBy}
 use Rattle.model.proofs.Logic.{byBool, byOption, clash, differ, _implies_, and-split, and-mono, or-left, or-right, or-false-at, or-mono, eqb-same}
 
 -- a mutex that is not another's
@@ -69,6 +69,10 @@ at-put os (suc i) x (suc j) = byBool (eqb j i)
 
 pub at-put-other : (os : List Object) (h : ℕ) (x : Object) (k : ℕ) → eqb k h ≡ false → objectAt (putAt os h x) k ≡ objectAt os k
 at-put-other os h x k n = ⊎-elim (λ e. e) (λ (p : (k ≡ h) × (objectAt (putAt os h x) k ≡ x)). absurd (eqb-false k h n (p .0))) (at-put os h x k)
+
+-- one object acquired
+abbrev pub acquireAt : ℕ → List Object → ℕ → List Object
+acquireAt asking os h = putAt os h (acquired asking (objectAt os h))
 
 -- fewer objects are signaled, for everyone
 abbrev pub Less : List Object → List Object → Type 0

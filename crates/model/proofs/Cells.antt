@@ -12,13 +12,13 @@ use lib.Seq.{sets, sets-eq, getD-append-add, take-append-add, drop-append-add, d
 use lib.Dec.{eqb}
 use borrow.Author.Tests.{ltb-false, eqb-true, eqb-false, not-true}
 use Rattle.model.specs.Basics.{bit, tabulate, joined}
-use Rattle.model.specs.Layout.{objectSize, headerSize, waitSize, tableLength, objectCell, waitCell, objectCells, modeCell, waitCells, encode, flag, objectOf, inWait, viewObject, waitOf, viewWait, view, distinctTickets}
+use Rattle.model.specs.Claims.{_isIn_}
+use Rattle.model.specs.Layout.{objectSize, headerSize, waitSize, tableLength, objectCell, waitCell, objectCells, modeCell, waitCells, encode, objectOf, inObject, inWait, waitOf, view, distinctTickets}
 use Rattle.model.specs.Sizes.{objectPlaces, waitPlaces, maxListed}
 use Rattle.model.specs.Objects.{Object, empty, semaphore, mutex, event}
 use Rattle.model.specs.Waits.{Mode, any, all, Wait, WaitPlace, free, waiting, State, withObjects, withWaits, objectAt, putObject, dequeue, anyWaiting}
 use Rattle.model.proofs.Logic.{byBool, differ, and-split, eqb-same, passed}
 use Rattle.model.proofs.Valid.{Valid, waiting-none}
-use Rattle.model.proofs.Queue.{_isIn_}
 
 -- one law for blocks of any size k
 module _ {A : Type 0} (f : A → List ℕ) (k : ℕ) (size : (x : A) → length (f x) ≡ k) where
@@ -92,6 +92,16 @@ write-object s i x h =
     let e : objectCell i ≡ suc (objectSize * i) = omega arith in
     rw (e, joined-set objectCells objectSize objectCells-size (s .objects) i x h) (sym (sets-behind (objectCells x) (joined objectCells (s .objects) ++ joined waitCells (s .waits)) (s .next) (objectSize * i)
     ∙ ap (λ (l : List ℕ). s .next ∷ l) (sets-append (objectCells x) (joined objectCells (s .objects)) (joined waitCells (s .waits)) (objectSize * i) o)))
+
+-- as `view` reads a flag, an object place, a wait place
+abbrev pub flag : ℕ → Bool
+flag n = not (eqb n 0)
+
+abbrev pub viewObject : List ℕ → ℕ → Object
+viewObject t p = objectOf (inObject t p 0) (inObject t p 1) (inObject t p 2) (inObject t p 3)
+
+abbrev pub viewWait : List ℕ → ℕ → WaitPlace
+viewWait t p = waitOf (inWait t p)
 
 pub tabulate-is : {A : Type 0} (d : A) (xs : List A) (n : ℕ) (f : ℕ → A) → length xs ≡ n → ((i : ℕ) → i < length xs → f i ≡ getD xs i d) → tabulate n f ≡ xs
 unfolding tabulate

@@ -9,18 +9,19 @@ use lib.ListN.{length, replicate, length-replicate}
 use lib.Dec.{eqb, lit<}
 use borrow.Author.Tests.{eqb-true, eqb-false}
 use Rattle.model.specs.Basics.{member}
-use Rattle.model.specs.Calls.{Operation, create, close, resetEvent, read, signal, wait, expire, cancel, snapshot, Call, newObject, newHandle, waitFaults, timeUp, newWait, refusals, Change, admits, due, endEach, change, Fits}
+use Rattle.model.specs.Calls.{Operation, create, close, resetEvent, read, signal, wait, expire, cancel, snapshot, Call, newObject, newHandle, waitFaults, timeUp, newWait, refusals, Change, admits, endEach, change, Fits}
+use Rattle.model.specs.Claims.{_isIn_, Quiet}
 use Rattle.model.specs.Layout.{validObject, distinctTickets}
 use Rattle.model.specs.Sizes.{objectPlaces, waitPlaces}
 use Rattle.model.specs.Objects.{Object, empty, occupied, cleared}
-use Rattle.model.specs.Steps.{conditions, firstRefusal, clear, libraryStep, referenceStep}
+use Rattle.model.specs.Steps.{conditions, firstRefusal, libraryStep, referenceStep}
 use Rattle.model.specs.Waits.{Wait, free, State, initial, withObjects, withWaits, objectAt, putAt, putObject, attempt, servable, dequeue, oldest, namedBy, wakeByWalk, wakeBySearch}
-use Rattle.model.proofs.Waking.{Quiet, Unaffected, search-quiet, walking-is-searching}
+use Rattle.model.proofs.Waking.{Unaffected, search-quiet, walking-is-searching}
 use Rattle.model.proofs.Logic.{byBool, byOption, clash, fault-free}
-use Rattle.model.proofs.Rules.{Accepted, accepted, perform-case, reset-less, cleared-less, new-place}
+use Rattle.model.proofs.Rules.{Accepted, accepted, clear, due, perform-case, reset-less, cleared-less, new-place}
 use Rattle.model.proofs.Acquiring.{signaled-mine, at-put-other, Less, put-less, acquireEach-less, attempt-signaled, servable-mono}
 use Rattle.model.proofs.Valid.{Valid, change-valid, step-valid, named-there, valid-consistent}
-use Rattle.model.proofs.Queue.{_isIn_, dequeue-in, count-length, enqueue-in, concerned-one}
+use Rattle.model.proofs.Queue.{dequeue-in, count-length, enqueue-in, concerned-one}
 
 -- what a history keeps
 pub record Settled (s : State) : Type 0 where

@@ -8,3 +8,10 @@ pub mod History
 pub mod Cells
 pub mod Validity
 pub mod Literal
+pub mod Frame
+pub mod Digits
+pub mod SnapshotLength
+pub mod Answers
+pub mod Tables
+pub mod Theorems
+pub mod Examples

@@ -12,17 +12,11 @@ use lib.Dec.{eqb, ltb}
 use borrow.Author.Tests.{ltb-true, ltb-false, eqb-false}
 use Rattle.model.specs.Basics.{member}
 use Rattle.model.specs.Calls.{enqueue}
+use Rattle.model.specs.Claims.{_isIn_}
 use Rattle.model.specs.Waits.{Wait, WaitPlace, free, waiting, dequeue, lowerTicket, oldest, namedBy, concernedBy}
 use Rattle.model.proofs.Logic.{byBool, byOption, clash, differ, or-split}
 
--- a wait stands in a place of the queue
-infix 40 _isIn_
-abbrev pub _isIn_ : Wait → List WaitPlace → Type 0
-_isIn_ w [] = ⊥
-_isIn_ w (free ∷ ws) = w isIn ws
-_isIn_ w (waiting v ∷ ws) = (w ≡ v) ⊎ (w isIn ws)
-
--- of `lower`
+-- of `lowerTicket`
 record Lower (w : Wait) (o : Option Wait) : Type 0 where
   it : Wait
   is : lowerTicket w o ≡ some it

@@ -1,6 +1,6 @@
 -- Refusals, and what the rules of one object keep.
 use mathlib.Core.Path.{_≡_, refl, sym, _∙_}
-use mathlib.Core.Bool.{Bool, true, false, not, _||_, cond}
+use mathlib.Core.Bool.{Bool, true, false, not, _&&_, _||_, cond}
 use mathlib.Core.List.{List, [], _∷_}
 use mathlib.Core.Option.{none, some}
 use Prim.Native.Nat.{ℕ, suc, pred, _+_, _<_}
@@ -9,12 +9,12 @@ use lib.ListN.{getD}
 use lib.Dec.{eqb, ltb, leb, eqb·suc-zero}
 use borrow.Author.Tests.{ltb-true, ltb-false, eqb-true, eqb-false, not-false, lt-ltb, le-leb, ne-eqb}
 use Rattle.model.specs.Basics.{bit, All}
-use Rattle.model.specs.Calls.{Kind, aSemaphore, aMutex, anEvent, Signal, post, unlock, kill, setEvent, pulseEvent, Call, Refusal, signalRule, resetRule, badNew, newObject, lowestEmpty, newHandle, change}
+use Rattle.model.specs.Calls.{Kind, aSemaphore, aMutex, anEvent, Signal, post, unlock, kill, setEvent, pulseEvent, Call, Refusal, signalRule, resetRule, badNew, newObject, lowestEmpty, newHandle, timeUp, change}
 use Rattle.model.specs.Layout.{validObject}
 use Rattle.model.specs.Sizes.{word32}
 use Rattle.model.specs.Objects.{Object, empty, semaphore, mutex, event, occupied, isEvent, signaled, cleared}
 use Rattle.model.specs.Steps.{Outcome, unaltered, conditions, firstRefusal, completed, perform}
-use Rattle.model.specs.Waits.{State, objectAt, Woken}
+use Rattle.model.specs.Waits.{Wait, State, objectAt, putObject, Woken}
 use Rattle.model.proofs.Logic.{byBool, byOption, clash, differ, _implies_, or-right, passed, pass}
 
 -- no refusal of the list holds
@@ -25,6 +25,13 @@ pub accepted : (rs : List Refusal) → firstRefusal rs ≡ none → Accepted rs
 unfolding firstRefusal
 accepted [] e = tt
 accepted (r ∷ rs) e = byBool (r .holds) (λ t. differ (let q : some (r .number) ≡ none = rw t at e in cc)) (λ f. (f, accepted rs (rw f at e)))
+
+-- what a pulse does last; what expire asks of a wait
+abbrev pub clear : ℕ → State → State
+clear h s = putObject s h (cleared (objectAt (s .objects) h))
+
+abbrev pub due : ℕ → ℕ → Wait → Bool
+due clock time w = eqb (w .clock) clock && timeUp (w .timeout) time
 
 -- a call's outcome, by whether it is refused
 pub perform-case : (wakeUp : List ℕ → State → Woken) (s : State) (c : Call) (P : Outcome State → Type 0)

@@ -11,17 +11,18 @@ use lib.ListN.{length, getD, length-set}
 use lib.Dec.{eqb, ltb, leb, eqb·suc-zero}
 use borrow.Author.Tests.{ltb-true, ltb-false, leb-true, leb-false, eqb-true, eqb-false, not-true, not-false, lt-ltb, le-leb, ne-eqb}
 use Rattle.model.specs.Basics.{isSome, anyOf, member, hasRepeat}
-use Rattle.model.specs.Calls.{Operation, create, close, resetEvent, read, signal, wait, expire, cancel, snapshot, Lent, Call, newObject, newHandle, allOccupied, repeats, waitFaults, timeUp, newWait, mustQueue, enqueue, refusals, Change, admits, due, endEach, change, Fits}
+use Rattle.model.specs.Calls.{Operation, create, close, resetEvent, read, signal, wait, expire, cancel, snapshot, Lent, Call, newObject, newHandle, allOccupied, repeats, waitFaults, timeUp, newWait, mustQueue, enqueue, refusals, Change, admits, endEach, change, Fits}
+use Rattle.model.specs.Claims.{_isIn_}
 use Rattle.model.specs.Layout.{validObject, validWait, distinctTickets}
-use Rattle.model.specs.Sizes.{objectPlaces, waitPlaces, word32, word64, mutexCeiling, ticketsEnd}
+use Rattle.model.specs.Sizes.{objectPlaces, waitPlaces, word32, word64, mutexCeiling}
 use Rattle.model.specs.Objects.{Object, empty, semaphore, mutex, event, occupied, isEvent, signaled, acquired, cleared}
-use Rattle.model.specs.Steps.{clear, libraryStep}
-use Rattle.model.specs.Waits.{Mode, any, all, Wait, WaitPlace, free, waiting, State, withObjects, withWaits, objectAt, putAt, putObject, Grant, lowestSignaled, allSignaled, look, attempt, acquireAt, acquireEach, dequeue, oldest, anyWaiting, namedBy, concernedBy, walkQueue, wakeByWalk}
+use Rattle.model.specs.Steps.{libraryStep}
+use Rattle.model.specs.Waits.{Mode, any, all, Wait, WaitPlace, free, waiting, State, withObjects, withWaits, objectAt, putAt, putObject, Grant, lowestSignaled, allSignaled, look, attempt, acquireEach, dequeue, oldest, anyWaiting, namedBy, concernedBy, walkQueue, wakeByWalk}
 use Rattle.model.proofs.Waking.{Consistent, walk-keeps}
 use Rattle.model.proofs.Logic.{byBool, byOption, clash, differ, _implies_, and-split, or-left, or-right, or-mono, or-split, eqb-same, passed, pass, fault-free}
-use Rattle.model.proofs.Rules.{Accepted, perform-case, Keeps, signal-keeps, reset-keeps, new-valid, new-place}
-use Rattle.model.proofs.Acquiring.{at-put, at-put-other, attempt-signaled}
-use Rattle.model.proofs.Queue.{_isIn_, oldest-none, Distinct, oldest-is-none, dequeue-in, enqueue-in, concerned-one}
+use Rattle.model.proofs.Rules.{Accepted, clear, due, perform-case, Keeps, signal-keeps, reset-keeps, new-valid, new-place}
+use Rattle.model.proofs.Acquiring.{at-put, at-put-other, acquireAt, attempt-signaled}
+use Rattle.model.proofs.Queue.{oldest-none, Distinct, oldest-is-none, dequeue-in, enqueue-in, concerned-one}
 
 pub record Valid (s : State) : Type 0 where
   pub places : length (s .objects) ≡ objectPlaces
@@ -290,11 +291,11 @@ new-wait-valid mode hs o f p a t s lo lt e =
     )
 
 admits-valid : (w : Wait) (time : ℕ) (s : State) → Valid s → validWait (s .objects) w ≡ true → w .ticket ≡ s .next
-    → (mustQueue w time s && leb ticketsEnd (s .next)) ≡ false → Valid ((admits w time s) .state)
+    → (mustQueue w time s && leb word64 (suc (s .next))) ≡ false → Valid ((admits w time s) .state)
 unfolding admits
 admits-valid w time s g v k r = byOption (attempt (s .objects) w)
     (λ e. rw e (byBool (timeUp (w .timeout) time) (λ t. rw t g)
-    (λ f. let left : leb ticketsEnd (s .next) ≡ false = (let q : (not (isSome (attempt (s .objects) w)) && not (timeUp (w .timeout) time) && leb ticketsEnd (s .next)) ≡ false = r in rw (e, f) at q) in rw f record {
+    (λ f. let left : leb word64 (suc (s .next)) ≡ false = (let q : (not (isSome (attempt (s .objects) w)) && not (timeUp (w .timeout) time) && leb word64 (suc (s .next))) ≡ false = r in rw (e, f) at q) in rw f record {
       places = g .places;
       slots = length-enqueue w (s .waits) ∙ g .slots;
       objects = g .objects;
@@ -302,7 +303,7 @@ admits-valid w time s g v k r = byOption (attempt (s .objects) w)
       tickets = λ u m. ⊎-elim (λ (p : u ≡ w). let z = g .started in rw (p, k) (omega arith)) (λ (j : u isIn s .waits). let z = g .tickets u j in (z .0, (let q : u .ticket < s .next = z .1 in omega arith))) (enqueue-in w (s .waits) u m);
       distinct = distinct-enqueue w (s .waits) (λ u m q. let z : u .ticket < s .next = (g .tickets u m) .1 in let w′ : ⊥ = omega arith in w′) (g .distinct);
       started = let z = g .started in omega arith;
-      bounded = let z : s .next < ticketsEnd = leb-false ticketsEnd (s .next) left in omega arith;
+      bounded = leb-false word64 (suc (s .next)) left;
     })))
     (λ t e. rw e (valid-take s w t g v e))
 

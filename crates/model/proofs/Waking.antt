@@ -1,6 +1,6 @@
 -- Where no unconcerned wait could be served, one walk over the concerned waits is the repeated search over all.
 use mathlib.Core.Path.{_≡_, refl, ap, sym}
-use mathlib.Core.Bool.{Bool, true, false, not, _&&_, _||_}
+use mathlib.Core.Bool.{Bool, true, false, not, _&&_, _||_, cond}
 use mathlib.Core.List.{List, []}
 use mathlib.Core.Option.{none, some}
 use Prim.Native.Nat.{ℕ, zero, suc, _≤_, _<_}
@@ -10,13 +10,18 @@ use lib.ListN.{length}
 use lib.Dec.{eqb, ltb}
 use borrow.Author.Tests.{ltb-true, ltb-false, lt-ltb, le-ltb}
 use Rattle.model.specs.Basics.{isSome, member}
+use Rattle.model.specs.Claims.{_isIn_, Quiet}
 use Rattle.model.specs.Objects.{Object, occupied}
-use Rattle.model.specs.Waits.{Wait, WaitPlace, State, objectAt, Grant, attempt, servable, acquireEach, dequeue, oldest, namedBy, concernedBy, Woken, noneWoken, andThen, serve, tryToServe, visit, walkQueue, searchQueue}
+use Rattle.model.specs.Waits.{Wait, WaitPlace, State, objectAt, Grant, attempt, servable, acquireEach, dequeue, oldest, namedBy, concernedBy, Woken, noneWoken, andThen, serve, tryToServe, walkQueue, searchQueue}
 use Rattle.model.proofs.Logic.{byBool, byOption, clash, and-split, eqb-same}
 use Rattle.model.proofs.Acquiring.{signaled-mine, Less, acquireEach-less, acquireEach-occupied, attempt-signaled, servable-mono}
-use Rattle.model.proofs.Queue.{_isIn_, oldest-none, Oldest, oldest-some, Distinct, oldest-is, oldest-is-none, dequeue-in, count, count-length, count-zero, count-le, count-lt, count-dequeue}
+use Rattle.model.proofs.Queue.{oldest-none, Oldest, oldest-some, Distinct, oldest-is, oldest-is-none, dequeue-in, count, count-length, count-zero, count-le, count-lt, count-dequeue}
 
--- What allSignaled history keeps of its waits.
+-- one wait of a walk
+abbrev pub visit : List ℕ → Wait → State → Woken
+visit changed w s = cond (concernedBy changed w) (tryToServe w s) (noneWoken s)
+
+-- What the argument asks of the waits.
 pub record Consistent (s : State) : Type 0 where
   pub started : 0 < s .next
   pub owners : (w : Wait) → w isIn s .waits → w .owner ≡ 0 → ⊥
@@ -24,10 +29,6 @@ pub record Consistent (s : State) : Type 0 where
   pub below : (w : Wait) → w isIn s .waits → w .ticket < s .next
   pub distinct : Distinct (s .waits)
   pub live : (w : Wait) → w isIn s .waits → (h : ℕ) → member h (namedBy w) ≡ true → (eqb h 0 || occupied (objectAt (s .objects) h)) ≡ true
-
--- No queued wait could be served.
-abbrev pub Quiet : State → Type 0
-Quiet s = (w : Wait) → w isIn s .waits → servable (s .objects) w ≡ false
 
 -- No queued wait that namedBy none of these objects could be served.
 abbrev pub Unaffected : List ℕ → State → Type 0

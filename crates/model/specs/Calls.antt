@@ -4,7 +4,7 @@ use mathlib.Core.List.{List, [], _∷_, _++_}
 use Prim.Native.Nat.{ℕ, zero, suc, pred, _+_, _<_}
 use lib.ListN.{length}
 use lib.Dec.{eqb, ltb, leb}
-use Rattle.model.specs.Sizes.{maxListed, word32, word64, never, ticketsEnd, wakeLength, snapshotBuffer}
+use Rattle.model.specs.Sizes.{maxListed, word32, word64, never, wakeLength, snapshotBuffer}
 use Rattle.model.specs.Basics.{maybe, bit, anyOf, hasRepeat, All, Answer, number, done, invalid, notOwner, overflow, ownerDead, timedOut, interrupted, noRoom, ticketsSpent, busy, queued}
 use Rattle.model.specs.Objects.{Object, empty, semaphore, mutex, event, byKind, occupied, isEvent}
 use Rattle.model.specs.Waits.{Mode, any, all, Wait, WaitPlace, free, waiting, State, withObjects, withWaits, withNext, objectAt, putObject, Grant, attempt, servable, acquireEach, servedAnswer, dequeue, oldest, anyWaiting, concernedBy, Report, Woken, noneWoken, andThen}
@@ -52,10 +52,6 @@ least (wait mode hs o f p a t now) = (0, 0)
 least (expire c t) = (wakeLength, 0)
 least (cancel t) = (0, 0)
 least snapshot = (0, snapshotBuffer)
-
--- "12 list short"
-abbrev pub tooShort : ℕ × ℕ → Lent → Bool
-tooShort n l = ltb (length (l .wake)) (n .0) || ltb (length (l .buffer)) (n .1)
 
 -- A refusal: a number with its condition. Of a call's, in order, the first that holds is the answer.
 pub record Refusal : Type 0 where
@@ -194,7 +190,7 @@ refusals (read k h) s = (readRule k (objectAt (s .objects) h)) .refusals
 refusals (signal how h) s = (signalRule how (objectAt (s .objects) h)) .refusals
 refusals (wait mode hs o f p a t now) s = let must = mustQueue (newWait mode hs o f a t (s .next)) now s in
     refusal invalid (anyOf (waitFaults mode hs o f p a (s .objects)))
-    ∷ refusal noRoom (must && waitsFull (s .waits)) ∷ refusal ticketsSpent (must && leb ticketsEnd (s .next)) ∷ []
+    ∷ refusal noRoom (must && waitsFull (s .waits)) ∷ refusal ticketsSpent (must && leb word64 (suc (s .next))) ∷ []
 refusals (expire clock time) s = refusal invalid (ltb 1 clock) ∷ []
 refusals (cancel ticket) s = refusal invalid (not (anyWaiting (λ w. eqb (w .ticket) ticket) (s .waits))) ∷ []
 refusals snapshot s = []
@@ -230,9 +226,6 @@ admits w time s = maybe (attempt (s .objects) w)
     (λ g. answers (servedAnswer (s .objects) g) (g .index) 0 (withObjects s (acquireEach (w .owner) (s .objects) (g .handles))))
 
 -- "Expire .. ends with 5, index 0, by ticket, every wait on that clock with timeout at or before that time, but not 2^64-1."
-abbrev pub due : ℕ → ℕ → Wait → Bool
-due clock time w = eqb (w .clock) clock && timeUp (w .timeout) time
-
 unfoldable pub endEach : ℕ → (Wait → Bool) → State → Woken
 endEach zero f s = noneWoken s
 endEach (suc n) f s = maybe (oldest f (s .waits)) (noneWoken s) (λ w. andThen
@@ -247,7 +240,7 @@ change (resetEvent h) s = let r = resetRule (objectAt (s .objects) h) in answers
 change (read k h) s = let r = readRule k (objectAt (s .objects) h) in answers (r .answer) (r .first) (r .second) s
 change (signal how h) s = wakes (signalRule how (objectAt (s .objects) h)) h (clearsAfter how h) s
 change (wait mode hs o f p a t now) s = admits (newWait mode hs o f a t (s .next)) now s
-change (expire clock time) s = let e = endEach (length (s .waits)) (due clock time) s in writes 0 (e .reports) [] (e .state)
+change (expire clock time) s = let e = endEach (length (s .waits)) (λ w. eqb (w .clock) clock && timeUp (w .timeout) time) s in writes 0 (e .reports) [] (e .state)
 change (cancel ticket) s = answers (number interrupted) 0 0 (withWaits s (dequeue ticket (s .waits)))
 change snapshot s = writes (length (snapshotText s)) [] (snapshotText s) s
 

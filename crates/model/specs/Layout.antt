@@ -55,12 +55,9 @@ unfoldable pub encode : State → List ℕ
 encode s = s .next ∷ (joined objectCells (s .objects) ++ joined waitCells (s .waits))
 
 -- READING. "the tables being read by their layout in docs/"; whatever the cells, they show some state.
-abbrev pub flag : ℕ → Bool
-flag n = not (eqb n 0)
-
 abbrev pub objectOf : ℕ → ℕ → ℕ → ℕ → Object
 objectOf kind count owner attribute = cond (eqb kind 0) empty (cond (eqb kind 1) (semaphore count attribute)
-    (cond (eqb kind 2) (mutex owner count (flag attribute)) (event (flag count) (flag attribute))))
+    (cond (eqb kind 2) (mutex owner count (not (eqb attribute 0))) (event (not (eqb count 0)) (not (eqb attribute 0)))))
 
 -- cell j of object place p, of wait place p
 abbrev pub inObject : List ℕ → ℕ → ℕ → ℕ
@@ -68,9 +65,6 @@ inObject t p j = getD t (objectCell p + j) 0
 
 abbrev pub inWait : List ℕ → ℕ → ℕ → ℕ
 inWait t p j = getD t (waitCell p + j) 0
-
-abbrev pub viewObject : List ℕ → ℕ → Object
-viewObject t p = objectOf (inObject t p 0) (inObject t p 1) (inObject t p 2) (inObject t p 3)
 
 abbrev pub waitOf : (ℕ → ℕ) → WaitPlace
 waitOf cell = cond (eqb (cell 0) 0) free (waiting record {
@@ -83,11 +77,12 @@ waitOf cell = cond (eqb (cell 0) 0) free (waiting record {
   list = tabulate (cell 5) (λ k. cell (headerSize + k));
 })
 
-abbrev pub viewWait : List ℕ → ℕ → WaitPlace
-viewWait t p = waitOf (inWait t p)
-
 unfoldable pub view : List ℕ → State
-view t = record { objects = tabulate objectPlaces (viewObject t); waits = tabulate waitPlaces (viewWait t); next = getD t 0 0 }
+view t = record {
+  objects = tabulate objectPlaces (λ p. objectOf (inObject t p 0) (inObject t p 1) (inObject t p 2) (inObject t p 3));
+  waits = tabulate waitPlaces (λ p. waitOf (inWait t p));
+  next = getD t 0 0;
+}
 
 -- VALIDITY, as a test; ValidCells.antt has document 01's list line by line, proved equivalent. "a semaphore's count is at most its maximum; a mutex's owner is 0 exactly when its count is 0; an abandoned
 -- mutex has owner 0"; ranges

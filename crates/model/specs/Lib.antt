@@ -7,3 +7,4 @@ pub mod Calls
 pub mod Layout
 pub mod Steps
 pub mod ValidCells
+pub mod Claims

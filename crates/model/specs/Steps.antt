@@ -1,16 +1,16 @@
 -- A call's outcome: by the library on lent tables, as every public contract states it, and by the reference (01: the fresh
 -- reckoning) on a state. Making, and histories.
-use mathlib.Core.Bool.{Bool, true, false, not, cond}
+use mathlib.Core.Bool.{Bool, true, false, not, _||_, cond}
 use mathlib.Core.List.{List, [], _∷_, _++_}
 use mathlib.Core.Option.{Option, none, some}
 use Prim.Native.Nat.{ℕ, _+_, _*_}
 use lib.ListN.{length, replicate}
-use lib.Dec.{eqb}
+use lib.Dec.{eqb, ltb}
 use Rattle.model.specs.Sizes.{objectPlaces, waitPlaces}
 use Rattle.model.specs.Basics.{maybe, overwrite, number, done, corrupt, listShort}
 use Rattle.model.specs.Objects.{cleared}
 use Rattle.model.specs.Waits.{State, initial, objectAt, putObject, Report, Woken, wakeByWalk, wakeBySearch}
-use Rattle.model.specs.Calls.{Operation, Lent, lend, Call, least, tooShort, Refusal, refusal, refusals, Change, change, Fits}
+use Rattle.model.specs.Calls.{Operation, Lent, lend, Call, least, Refusal, refusal, refusals, Change, change, Fits}
 use Rattle.model.specs.Layout.{objectSize, waitSize, tableLength, encode, view, validTables}
 
 -- "equal after each call in: the answer and all numbers with it; the reports (ticket, answer, index) in order ..; every
@@ -30,7 +30,8 @@ unaltered n l h = record { answer = n; first = 0; second = 0; reports = []; lent
 
 -- "Order: 9" (`tableStep`) ", 12, 1, then 2, 3, 7, 10"
 abbrev pub conditions : Call → State → List Refusal
-conditions c s = refusal listShort (tooShort (least (c .operation)) (c .lent)) ∷ refusals (c .operation) s
+conditions c s = let n = least (c .operation) in
+    refusal listShort (ltb (length (c .lent .wake)) (n .0) || ltb (length (c .lent .buffer)) (n .1)) ∷ refusals (c .operation) s
 
 unfoldable pub firstRefusal : List Refusal → Option ℕ
 firstRefusal [] = none
@@ -41,16 +42,10 @@ unfoldable pub records : List Report → List ℕ
 records [] = []
 records (r ∷ rs) = r .ticket ∷ r .answer ∷ r .index ∷ records rs
 
-abbrev pub written : Lent → List Report → List ℕ → Lent
-written l rs text = lend (overwrite (records rs) (l .wake)) (overwrite text (l .buffer))
-
 -- "A pulse then clears its event."
-abbrev pub clear : ℕ → State → State
-clear h s = putObject s h (cleared (objectAt (s .objects) h))
-
 abbrev pub completed : (List ℕ → State → Woken) → Lent → Change → Outcome State
-completed wakeUp l d = let v = wakeUp (d .changed) (d .state) in let rs = d .reports ++ v .reports in
-    record { answer = d .answer; first = d .first; second = d .second; reports = rs; lent = written l rs (d .text); held = clear (d .clears) (v .state) }
+completed wakeUp l d = let v = wakeUp (d .changed) (d .state) in let rs = d .reports ++ v .reports in let h = d .clears in
+    record { answer = d .answer; first = d .first; second = d .second; reports = rs; lent = lend (overwrite (records rs) (l .wake)) (overwrite (d .text) (l .buffer)); held = putObject (v .state) h (cleared (objectAt (v .state .objects) h)) }
 
 abbrev pub perform : (List ℕ → State → Woken) → State → Call → Outcome State
 perform wakeUp s c = maybe (firstRefusal (conditions c s)) (completed wakeUp (c .lent) (change (c .operation) s)) (λ n. unaltered n (c .lent) s)
@@ -87,6 +82,3 @@ tableEntry t e = maybe e (makeTables t) (λ c. tableStep t c)
 
 abbrev pub referenceEntry : State → Option Call → Outcome State
 referenceEntry s e = maybe e (unaltered (number done) (lend [] []) initial) (λ c. referenceStep s c)
-
-abbrev pub EntryFits : Option Call → Type 0
-EntryFits e = maybe e (Unit {0}) Fits

@@ -89,12 +89,9 @@ abbrev pub servable : List Object → Wait → Bool
 servable os w = isSome (attempt os w)
 
 -- "it takes the objects which that attempt acquires"
-abbrev pub acquireAt : ℕ → List Object → ℕ → List Object
-acquireAt asking os h = putAt os h (acquired asking (objectAt os h))
-
 unfoldable pub acquireEach : ℕ → List Object → List ℕ → List Object
 acquireEach asking os [] = os
-acquireEach asking os (h ∷ hs) = acquireEach asking (acquireAt asking os h) hs
+acquireEach asking os (h ∷ hs) = acquireEach asking (putAt os h (acquired asking (objectAt os h))) hs
 
 unfoldable pub anyAbandoned : List Object → List ℕ → Bool
 anyAbandoned os [] = false
@@ -158,16 +155,13 @@ serve w g s = record {
 unfoldable pub tryToServe : Wait → State → Woken
 tryToServe w s = maybe (attempt (s .objects) w) (noneWoken s) (λ g. serve w g s)
 
--- "A wait whose list or alert names the changed object is tried as above, against the objects as they then stand"
-abbrev pub visit : List ℕ → Wait → State → Woken
-visit changed w s = cond (concernedBy changed w) (tryToServe w s) (noneWoken s)
-
--- THE LIBRARY'S WALK. "the queued waits are walked once, lowest ticket first (order house; 001 leaves it open)"
--- `last` is the ticket visited last, n the number of visits left.
+-- THE LIBRARY'S WALK. "the queued waits are walked once, lowest ticket first (order house; 001 leaves it open). A wait
+-- whose list or alert names the changed object is tried as above, against the objects as they then stand". `last` is the
+-- ticket visited last, n the number of visits left.
 unfoldable pub walkQueue : ℕ → List ℕ → ℕ → State → Woken
 walkQueue zero changed last s = noneWoken s
 walkQueue (suc n) changed last s = maybe (oldest (λ w. ltb last (w .ticket)) (s .waits)) (noneWoken s)
-    (λ w. andThen (visit changed w s) (λ s′. walkQueue n changed (w .ticket) s′))
+    (λ w. andThen (cond (concernedBy changed w) (tryToServe w s) (noneWoken s)) (λ s′. walkQueue n changed (w .ticket) s′))
 
 abbrev pub wakeByWalk : List ℕ → State → Woken
 wakeByWalk changed s = walkQueue (length (s .waits)) changed 0 s

@@ -1,0 +1,206 @@
+-- Which answers there are: refusals alter nothing, every other answer is 0, 4, 5, 6 or 11, and 5 and 6 touch no object.
+use mathlib.Core.Path.{_≡_, refl, ap, _∙_}
+use mathlib.Core.Bool.{Bool, true, false, cond}
+use mathlib.Core.List.{List, [], _∷_}
+use mathlib.Core.Option.{some}
+use mathlib.Core.Logic.{inl, inr, _↔_}
+use Prim.Native.Nat.{ℕ, _≤_}
+use native.Mathlib.Omega.{arith}
+use lib.ListN.{length}
+use lib.Dec.{eqb}
+use borrow.Author.Tests.{eqb-true, eqb-false}
+use Rattle.model.specs.Basics.{done, ownerDead, number, member, All}
+use Rattle.model.specs.Calls.{Kind, aSemaphore, aMutex, anEvent, Signal, post, unlock, kill, setEvent, pulseEvent, Operation, create, close, resetEvent, read, signal, wait, expire, cancel, snapshot, Call, Refusal, Rule, rule, wrongKind, onSemaphore, onMutex, onEvent, readRule, signalRule, timeUp, newWait, refusals, Change, admits, change}
+use Rattle.model.specs.Claims.{refusalNumbers, FirstIs}
+use Rattle.model.specs.Objects.{Object, empty, semaphore, mutex, event}
+use Rattle.model.specs.Steps.{unaltered, conditions, firstRefusal, perform, libraryStep}
+use Rattle.model.specs.Waits.{Wait, State, objectAt, attempt, anyAbandoned, Woken, wakeByWalk}
+use Rattle.model.proofs.Waking.{walk-nothing}
+use Rattle.model.proofs.Logic.{byBool, byOption, clash, differ}
+use Rattle.model.proofs.Rules.{perform-case}
+
+-- a property of the rules of one object, whatever it is
+module _ (P : Rule → Type 0) (wrong : P wrongKind) where
+  on-semaphore : (x : Object) (f : ℕ → ℕ → Rule) → ((c m : ℕ) → P (f c m)) → P (onSemaphore x f)
+  on-semaphore empty f h = wrong
+  on-semaphore (semaphore c m) f h = h c m
+  on-semaphore (mutex o c a) f h = wrong
+  on-semaphore (event s m) f h = wrong
+
+  on-mutex : (x : Object) (f : ℕ → ℕ → Bool → Rule) → ((o c : ℕ) (a : Bool) → P (f o c a)) → P (onMutex x f)
+  on-mutex empty f h = wrong
+  on-mutex (semaphore c m) f h = wrong
+  on-mutex (mutex o c a) f h = h o c a
+  on-mutex (event s m) f h = wrong
+
+  on-event : (x : Object) (f : Bool → Bool → Rule) → ((s m : Bool) → P (f s m)) → P (onEvent x f)
+  on-event empty f h = wrong
+  on-event (semaphore c m) f h = wrong
+  on-event (mutex o c a) f h = wrong
+  on-event (event s m) f h = h s m
+
+-- REFUSALS of a call have the numbers of refusals, less 9
+abbrev callNumbers : List ℕ
+callNumbers = 1 ∷ 2 ∷ 3 ∷ 7 ∷ 8 ∷ 10 ∷ 12 ∷ []
+
+abbrev Numbered : List Refusal → Type 0
+Numbered rs = All (λ r. member (r .number) callNumbers ≡ true) rs
+
+signal-numbered : (how : Signal) (x : Object) → Numbered ((signalRule how x) .refusals)
+unfolding member
+signal-numbered (post add) x = on-semaphore (λ r. Numbered (r .refusals)) (refl, tt) x _ (λ c m. (refl, tt))
+signal-numbered (unlock o) x = on-mutex (λ r. Numbered (r .refusals)) (refl, tt) x _ (λ h c a. (refl, (refl, tt)))
+signal-numbered (kill o) x = on-mutex (λ r. Numbered (r .refusals)) (refl, tt) x _ (λ h c a. (refl, (refl, tt)))
+signal-numbered setEvent x = on-event (λ r. Numbered (r .refusals)) (refl, tt) x _ (λ s m. tt)
+signal-numbered pulseEvent x = on-event (λ r. Numbered (r .refusals)) (refl, tt) x _ (λ s m. tt)
+
+read-mutex : (P : Rule → Type 0) (x : Object) (o c : ℕ) (a : Bool) → P (rule [] ownerDead 0 0 x) → P (rule [] done o c x) → P (cond a (rule [] ownerDead 0 0 x) (rule [] done o c x))
+read-mutex P x o c true p q = p
+read-mutex P x o c false p q = q
+
+read-numbered : (k : Kind) (x : Object) → Numbered ((readRule k x) .refusals)
+unfolding member
+read-numbered aSemaphore x = on-semaphore (λ r. Numbered (r .refusals)) (refl, tt) x _ (λ c m. tt)
+read-numbered aMutex x = on-mutex (λ r. Numbered (r .refusals)) (refl, tt) x _ (λ o c a. read-mutex (λ r. Numbered (r .refusals)) x o c a tt tt)
+read-numbered anEvent x = on-event (λ r. Numbered (r .refusals)) (refl, tt) x _ (λ s m. tt)
+
+refusals-numbered : (op : Operation) (s : State) → Numbered (refusals op s)
+unfolding refusals member
+refusals-numbered (create k x y) s = (refl, (refl, tt))
+refusals-numbered (close h) s = (refl, (refl, tt))
+refusals-numbered (resetEvent h) s = on-event (λ r. Numbered (r .refusals)) (refl, tt) (objectAt (s .objects) h) _ (λ v m. tt)
+refusals-numbered (read k h) s = read-numbered k (objectAt (s .objects) h)
+refusals-numbered (signal how h) s = signal-numbered how (objectAt (s .objects) h)
+refusals-numbered (wait mode hs o f p a t now) s = (refl, (refl, (refl, tt)))
+refusals-numbered (expire c t) s = (refl, tt)
+refusals-numbered (cancel t) s = (refl, tt)
+refusals-numbered snapshot s = tt
+
+first-numbered : (rs : List Refusal) → Numbered rs → (n : ℕ) → firstRefusal rs ≡ some n → member n callNumbers ≡ true
+unfolding firstRefusal
+first-numbered [] k n e = differ (cc)
+first-numbered (r ∷ rs) k n e = byBool (r .holds)
+    (λ t. let q : some (r .number) ≡ some n = rw t at e in let i : r .number ≡ n = cc in rw (← i) (k .0))
+    (λ f. first-numbered rs (k .1) n (rw f at e))
+
+call-numbered : (c : Call) (s : State) (n : ℕ) → firstRefusal (conditions c s) ≡ some n → member n callNumbers ≡ true
+unfolding member
+call-numbered c s n e = first-numbered (conditions c s) (refl, refusals-numbered (c .operation) s) n e
+
+-- CHANGES have the other numbers
+abbrev pub otherNumbers : List ℕ
+otherNumbers = 0 ∷ 4 ∷ 5 ∷ 6 ∷ 11 ∷ []
+
+-- a property of every number of a list
+pub among : (P : ℕ → Type 0) (ns : List ℕ) → All P ns → (n : ℕ) → member n ns ≡ true → P n
+unfolding member
+among P [] a n e = clash e refl
+among P (k ∷ ns) a n e = byBool (eqb n k) (λ y. rw (eqb-true n k y) (a .0)) (λ f. among P ns (a .1) n (rw f at e))
+
+pub refused-numbered : (c : Call) (s : State) (n : ℕ) → firstRefusal (conditions c s) ≡ some n → member n refusalNumbers ≡ true
+unfolding member
+refused-numbered c s n e = among (λ n. member n refusalNumbers ≡ true) callNumbers (refl, (refl, (refl, (refl, (refl, (refl, (refl, tt))))))) n (call-numbered c s n e)
+
+not-nine : {n : ℕ} → eqb n 9 ≡ false → n ≡ 9 → ⊥
+not-nine {n} f e = eqb-false n 9 f e
+
+pub others-not : (n : ℕ) → member n otherNumbers ≡ true → member n refusalNumbers ≡ false
+unfolding member
+others-not n e = among (λ n. member n refusalNumbers ≡ false) otherNumbers (refl, (refl, (refl, (refl, (refl, tt))))) n e
+
+pub refusals-low : (n : ℕ) → member n refusalNumbers ≡ true → n ≤ 12
+refusals-low n e = among (λ n. n ≤ 12) refusalNumbers (omega arith, (omega arith, (omega arith, (omega arith, (omega arith, (omega arith, (omega arith, (omega arith, tt)))))))) n e
+
+pub others-low : (n : ℕ) → member n otherNumbers ≡ true → n ≤ 12
+others-low n e = among (λ n. n ≤ 12) otherNumbers (omega arith, (omega arith, (omega arith, (omega arith, (omega arith, tt))))) n e
+
+-- "5: objects unaltered; 6: objects unaltered"
+abbrev ended : List ℕ
+ended = 5 ∷ 6 ∷ []
+
+pub record Fine (s : State) (d : Change) : Type 0 where
+  pub number : member (d .answer) otherNumbers ≡ true
+  pub ends : member (d .answer) (5 ∷ 6 ∷ []) ≡ true → (d .state .objects ≡ s .objects) × (d .changed ≡ []) × (d .clears ≡ 0)
+
+-- an answer of 0 or 4
+abbrev Plain : ℕ → Type 0
+Plain a = (member a otherNumbers ≡ true) × (member a (5 ∷ 6 ∷ []) ≡ false)
+
+plain-fine : (s : State) (d : Change) → Plain (d .answer) → Fine s d
+plain-fine s d p = record { number = p .0; ends = λ e. clash e (p .1) }
+
+signal-plain : (how : Signal) (x : Object) → Plain ((signalRule how x) .answer)
+unfolding member
+signal-plain (post add) x = on-semaphore (λ r. Plain (r .answer)) (refl, refl) x _ (λ c m. (refl, refl))
+signal-plain (unlock o) x = on-mutex (λ r. Plain (r .answer)) (refl, refl) x _ (λ h c a. (refl, refl))
+signal-plain (kill o) x = on-mutex (λ r. Plain (r .answer)) (refl, refl) x _ (λ h c a. (refl, refl))
+signal-plain setEvent x = on-event (λ r. Plain (r .answer)) (refl, refl) x _ (λ s m. (refl, refl))
+signal-plain pulseEvent x = on-event (λ r. Plain (r .answer)) (refl, refl) x _ (λ s m. (refl, refl))
+
+read-plain : (k : Kind) (x : Object) → Plain ((readRule k x) .answer)
+unfolding member
+read-plain aSemaphore x = on-semaphore (λ r. Plain (r .answer)) (refl, refl) x _ (λ c m. (refl, refl))
+read-plain aMutex x = on-mutex (λ r. Plain (r .answer)) (refl, refl) x _ (λ o c a. read-mutex (λ r. Plain (r .answer)) x o c a (refl, refl) (refl, refl))
+read-plain anEvent x = on-event (λ r. Plain (r .answer)) (refl, refl) x _ (λ s m. (refl, refl))
+
+admits-fine : (w : Wait) (time : ℕ) (s : State) → Fine s (admits w time s)
+unfolding admits member
+admits-fine w time s = byOption (attempt (s .objects) w)
+    (λ e. rw e (byBool (timeUp (w .timeout) time) (λ t. rw t record { number = refl; ends = λ z. (refl, refl, refl) }) (λ f. rw f record { number = refl; ends = λ z. clash z refl })))
+    (λ g e. byBool (anyAbandoned (s .objects) (g .handles)) (λ d. rw (e, d) record { number = refl; ends = λ z. clash z refl }) (λ d. rw (e, d) record { number = refl; ends = λ z. clash z refl }))
+
+pub change-fine : (op : Operation) (s : State) → Fine s (change op s)
+unfolding change member
+change-fine (create k x y) s = plain-fine s _ (refl, refl)
+change-fine (close h) s = plain-fine s _ (refl, refl)
+change-fine (resetEvent h) s = plain-fine s _ (on-event (λ r. Plain (r .answer)) (refl, refl) (objectAt (s .objects) h) _ (λ v m. (refl, refl)))
+change-fine (read k h) s = plain-fine s _ (read-plain k (objectAt (s .objects) h))
+change-fine (signal how h) s = plain-fine s _ (signal-plain how (objectAt (s .objects) h))
+change-fine (wait mode hs o f p a t now) s = admits-fine (newWait mode hs o f a t (s .next)) now s
+change-fine (expire c t) s = plain-fine s _ (refl, refl)
+change-fine (cancel t) s = record { number = refl; ends = λ e. (refl, refl, refl) }
+change-fine snapshot s = plain-fine s _ (refl, refl)
+
+-- EVERY CALL on states
+pub step-low : (s : State) (c : Call) → (libraryStep s c) .answer ≤ 12
+unfolding libraryStep
+step-low s c = perform-case wakeByWalk s c (λ o. o .answer ≤ 12) (λ n e. refusals-low n (refused-numbered c s n e)) (λ a. others-low _ ((change-fine (c .operation) s) .number))
+
+pub step-refused : (s : State) (c : Call) → member ((libraryStep s c) .answer) refusalNumbers ≡ true → libraryStep s c ≡ unaltered ((libraryStep s c) .answer) (c .lent) s
+unfolding libraryStep
+step-refused s c = perform-case wakeByWalk s c (λ o. member (o .answer) refusalNumbers ≡ true → o ≡ unaltered (o .answer) (c .lent) s) (λ n e m. refl)
+    (λ a m. clash m (others-not _ ((change-fine (c .operation) s) .number)))
+
+pub step-ended : (s : State) (c : Call) → member ((libraryStep s c) .answer) (5 ∷ 6 ∷ []) ≡ true → (libraryStep s c) .held .objects ≡ s .objects
+unfolding libraryStep
+step-ended s c = perform-case wakeByWalk s c (λ o. member (o .answer) (5 ∷ 6 ∷ []) ≡ true → o .held .objects ≡ s .objects) (λ n e m. refl)
+    (λ a m. let d : Change = change (c .operation) s in let r = (change-fine (c .operation) s) .ends m in let e1 = r .1 in let e2 = r .2 in
+    rw (e2, e1, walk-nothing (length (d .state .waits)) 0 (d .state)) (r .0))
+
+-- on a state nobody answers 9
+pub never-corrupt : (wakeUp : List ℕ → State → Woken) (s : State) (c : Call) → (perform wakeUp s c) .answer ≡ 9 → ⊥
+never-corrupt wakeUp s c = perform-case wakeUp s c (λ o. o .answer ≡ 9 → ⊥)
+    (λ n e. not-nine (among (λ n. eqb n 9 ≡ false) callNumbers (refl, (refl, (refl, (refl, (refl, (refl, (refl, tt))))))) n (call-numbered c s n e)))
+    (λ a. not-nine (among (λ n. eqb n 9 ≡ false) otherNumbers (refl, (refl, (refl, (refl, (refl, tt))))) _ ((change-fine (c .operation) s) .number)))
+
+-- THE FIRST REFUSAL THAT HOLDS
+first-is : (rs : List Refusal) (n : ℕ) → FirstIs n rs → firstRefusal rs ≡ some n
+unfolding firstRefusal
+first-is [] n f = absurd f
+first-is (r ∷ rs) n (inl p) = let t = p .0 in let i = p .1 in rw (t, i)
+first-is (r ∷ rs) n (inr p) = let t = p .0 in rw t (first-is rs n (p .1))
+
+is-first : (rs : List Refusal) (n : ℕ) → firstRefusal rs ≡ some n → FirstIs n rs
+unfolding firstRefusal
+is-first [] n e = differ (cc)
+is-first (r ∷ rs) n e = byBool (r .holds)
+    (λ t. inl (t, (let q : some (r .number) ≡ some n = rw t at e in let i : r .number ≡ n = cc in i)))
+    (λ f. inr (f, is-first rs n (rw f at e)))
+
+pub step-exactly : (s : State) (c : Call) (n : ℕ) → member n refusalNumbers ≡ true → ((libraryStep s c) .answer ≡ n) ↔ FirstIs n (conditions c s)
+unfolding libraryStep
+step-exactly s c n k = (
+  perform-case wakeByWalk s c (λ o. o .answer ≡ n → FirstIs n (conditions c s)) (λ m e q. is-first (conditions c s) n (e ∙ ap some q))
+      (λ a q. clash k (rw q at (others-not _ ((change-fine (c .operation) s) .number)))),
+  λ f. let e = first-is (conditions c s) n f in rw e,
+)

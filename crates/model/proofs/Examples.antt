@@ -1,0 +1,88 @@
+-- P1 to P12 of document 01 ("Bench readings"), as one checked list, by computation, for the library's step and for the
+-- reference's.
+use mathlib.Core.Path.{_≡_, refl}
+use mathlib.Core.List.{List, [], _∷_, _++_, map}
+use Prim.Native.Nat.{ℕ}
+use lib.ListN.{replicate}
+use Rattle.model.specs.Basics.{anyOf, member, hasRepeat, joined}
+use Rattle.model.specs.Calls.{aSemaphore, aMutex, anEvent, post, unlock, kill, setEvent, pulseEvent, Operation, create, read, signal, wait, lend, Call, least, lowestEmpty, allOccupied, waitsFull, enqueue, refusals, admits, endEach, change}
+use Rattle.model.specs.Snapshot.{ascii, digitsUpTo, line, objectText, objectsText, objectCount, waitText, queueFrom, snapshotText}
+use Rattle.model.specs.Sizes.{mutexCeiling, never, wakeLength}
+use Rattle.model.specs.Steps.{Outcome, firstRefusal, records, libraryStep, referenceStep, run}
+use Rattle.model.specs.Waits.{Mode, any, all, State, initial, lowestSignaled, allSignaled, look, attempt, acquireEach, anyAbandoned, dequeue, oldest, concernedBy, serve, tryToServe, walkQueue, searchQueue}
+
+-- what the caller hears: the answer, the two numbers, the reports as (ticket, answer, index)
+pub record Heard : Type 0 where
+  pub answer : ℕ
+  pub first : ℕ
+  pub second : ℕ
+  pub woken : List (List ℕ)
+
+abbrev heard : Outcome State → Heard
+heard o = record { answer = o .answer; first = o .first; second = o .second; woken = map (λ r. r .ticket ∷ r .answer ∷ r .index ∷ []) (o .reports) }
+
+abbrev says : ℕ → ℕ → ℕ → Heard
+says a x y = record { answer = a; first = x; second = y; woken = [] }
+
+abbrev reports : ℕ → List (List ℕ) → Heard
+reports x rs = record { answer = 0; first = x; second = 0; woken = rs }
+
+-- a call that is lent a full wake list and no buffer
+abbrev calling : Operation → Call
+calling op = record { operation = op; lent = lend (replicate wakeLength 0) [] }
+
+-- owner o waits without alert, for ever
+abbrev waits : Mode → List ℕ → ℕ → Operation
+waits m hs o = wait m hs o 0 0 0 never 0
+
+abbrev setUp : List Operation
+setUp = create aSemaphore 1 2 ∷ create anEvent 0 1 ∷ waits all (1 ∷ 2 ∷ []) 7 ∷ []
+
+abbrev pub examples : List (List Operation)
+examples =
+    (setUp ++ (signal setEvent 2 ∷ read aSemaphore 1 ∷ read anEvent 2 ∷ []))  -- P1, P2
+    ∷ (create aSemaphore 1 3 ∷ signal (post 2) 1 ∷ read aSemaphore 1 ∷ [])  -- P3
+    ∷ (create aSemaphore 1 3 ∷ signal (post 3) 1 ∷ read aSemaphore 1 ∷ [])  -- P4
+    ∷ (create anEvent 0 0 ∷ waits any (1 ∷ []) 7 ∷ waits any (1 ∷ []) 8 ∷ signal pulseEvent 1 ∷ read anEvent 1 ∷ [])  -- P5
+    ∷ (create anEvent 0 1 ∷ waits any (1 ∷ []) 7 ∷ waits any (1 ∷ []) 8 ∷ signal pulseEvent 1 ∷ read anEvent 1 ∷ [])  -- P6
+    ∷ (create aMutex 5 1 ∷ waits any (1 ∷ []) 6 ∷ waits any (1 ∷ []) 6 ∷ signal (unlock 5) 1 ∷ read aMutex 1 ∷ [])  -- P7
+    ∷ (create aMutex 5 1 ∷ waits any (1 ∷ []) 6 ∷ signal (kill 5) 1 ∷ read aMutex 1 ∷ [])  -- P8
+    ∷ (create aMutex 5 mutexCeiling ∷ waits any (1 ∷ []) 5 ∷ signal (unlock 5) 1 ∷ read aMutex 1 ∷ [])  -- P9
+    ∷ (create anEvent 1 0 ∷ wait any (1 ∷ 1 ∷ []) 7 0 0 1 never 0 ∷ read anEvent 1 ∷ [])  -- P10
+    ∷ (create anEvent 0 0 ∷ wait any (1 ∷ []) 7 0 0 0 40 40 ∷ wait any (1 ∷ []) 7 0 0 0 41 40 ∷ [])  -- P11
+    ∷ (create anEvent 0 0 ∷ wait any (1 ∷ []) 7 0 0 0 never never ∷ [])  -- P12
+    ∷ []
+
+abbrev pub expected : List (List Heard)
+expected =
+    (says 0 1 0 ∷ says 0 2 0 ∷ says 11 0 1 ∷ reports 0 ((1 ∷ 0 ∷ 0 ∷ []) ∷ []) ∷ says 0 0 2 ∷ says 0 1 1 ∷ [])
+    ∷ (says 0 1 0 ∷ says 0 1 0 ∷ says 0 3 3 ∷ [])
+    ∷ (says 0 1 0 ∷ says 3 0 0 ∷ says 0 1 3 ∷ [])
+    ∷ (says 0 1 0 ∷ says 11 0 1 ∷ says 11 0 2 ∷ reports 0 ((1 ∷ 0 ∷ 0 ∷ []) ∷ []) ∷ says 0 0 0 ∷ [])
+    ∷ (says 0 1 0 ∷ says 11 0 1 ∷ says 11 0 2 ∷ reports 0 ((1 ∷ 0 ∷ 0 ∷ []) ∷ (2 ∷ 0 ∷ 0 ∷ []) ∷ []) ∷ says 0 0 1 ∷ [])
+    ∷ (says 0 1 0 ∷ says 11 0 1 ∷ says 11 0 2 ∷ reports 1 ((1 ∷ 0 ∷ 0 ∷ []) ∷ (2 ∷ 0 ∷ 0 ∷ []) ∷ []) ∷ says 0 6 2 ∷ [])
+    ∷ (says 0 1 0 ∷ says 11 0 1 ∷ reports 0 ((1 ∷ 4 ∷ 0 ∷ []) ∷ []) ∷ says 0 6 1 ∷ [])
+    ∷ (says 0 1 0 ∷ says 11 0 1 ∷ reports mutexCeiling ((1 ∷ 0 ∷ 0 ∷ []) ∷ []) ∷ says 0 5 mutexCeiling ∷ [])
+    ∷ (says 0 1 0 ∷ says 0 0 0 ∷ says 0 0 0 ∷ [])
+    ∷ (says 0 1 0 ∷ says 5 0 0 ∷ says 11 0 1 ∷ [])
+    ∷ (says 0 1 0 ∷ says 11 0 1 ∷ [])
+    ∷ []
+
+pub examples-library : map (λ ops. map heard (run libraryStep initial (map calling ops))) examples ≡ expected
+unfolding lowestSignaled allSignaled look attempt acquireEach anyAbandoned dequeue oldest serve tryToServe member concernedBy walkQueue libraryStep firstRefusal records run refusals change least lowestEmpty waitsFull enqueue allOccupied hasRepeat anyOf admits endEach
+examples-library = refl
+
+pub examples-reference : map (λ ops. map heard (run referenceStep initial (map calling ops))) examples ≡ expected
+unfolding lowestSignaled allSignaled look attempt acquireEach anyAbandoned dequeue oldest serve tryToServe member concernedBy searchQueue referenceStep firstRefusal records run refusals change least lowestEmpty waitsFull enqueue allOccupied hasRepeat anyOf admits endEach
+examples-reference = refl
+
+-- P1's whole text, as it stands in the lent buffer after a snapshot
+abbrev lastState : List (Outcome State) → State
+lastState [] = initial
+lastState (o ∷ []) = o .held
+lastState (o ∷ p ∷ os) = lastState (p ∷ os)
+
+pub example-snapshot : snapshotText (lastState (run libraryStep initial (map calling setUp)))
+    ≡ ascii "next=2\nobjects=2\nhandle=1\nkind=sem\ncount=1\nmax=2\nhandle=2\nkind=event\nsignaled=0\nmanual=1\nwaits=1\nwait=1\nmode=all\nowner=7\nclock=mono\ntimeout=18446744073709551615\nalert=0\nn=2\nobj=1\nobj=2\n"
+unfolding lowestSignaled allSignaled look attempt acquireEach anyAbandoned dequeue oldest serve tryToServe member concernedBy walkQueue libraryStep firstRefusal records run refusals change least lowestEmpty waitsFull enqueue allOccupied hasRepeat anyOf admits snapshotText objectText objectsText objectCount waitText queueFrom joined line digitsUpTo
+example-snapshot = refl
