@@ -10,11 +10,11 @@ use lib.ListN.{length, getD}
 use lib.Seq.{getD-set-same, getD-set-other, set-out}
 use lib.Dec.{eqb, ltb}
 use borrow.Author.Tests.{ltb-true, ltb-false, eqb-true, eqb-false, lt-ltb}
-use Rattle.model.specs.Basics.{maybe, isSome, member}
+use Rattle.model.specs.Basics.{maybe, member}
 use Rattle.model.specs.Sizes.{mutexCeiling}
 use Rattle.model.specs.Objects.{Object, empty, semaphore, mutex, event, occupied, signaled, acquired}
 use Rattle.model.specs.Waits.{Mode, any, all, Wait, objectAt, putAt, Grant, lowestSignaled, allSignaled, look, attempt, servable, acquireEach, namedBy}
-use Rattle.model.proofs.Logic.{byBool, byOption, clash, differ, _implies_, and-split, and-mono, or-left, or-right, or-false-at, or-mono, eqb-same}
+use Rattle.model.proofs.Logic.{byBool, byOption, isSome, clash, differ, _implies_, and-split, and-mono, or-left, or-right, or-false-at, or-mono, eqb-same}
 
 -- a mutex that is not another's
 abbrev pub mine : ℕ → Object → Bool

@@ -11,9 +11,8 @@ use lib.Dec.{eqb}
 use borrow.Author.Tests.{eqb-true, eqb-false}
 use Rattle.model.specs.Basics.{done, ownerDead, number, member, All}
 use Rattle.model.specs.Calls.{Kind, aSemaphore, aMutex, anEvent, Signal, post, unlock, kill, setEvent, pulseEvent, Operation, create, close, resetEvent, read, signal, wait, expire, cancel, snapshot, Call, Refusal, Rule, rule, wrongKind, onSemaphore, onMutex, onEvent, readRule, signalRule, timeUp, newWait, refusals, Change, admits, change}
-use Rattle.model.specs.Claims.{refusalNumbers, FirstIs}
 use Rattle.model.specs.Objects.{Object, empty, semaphore, mutex, event}
-use Rattle.model.specs.Steps.{unaltered, conditions, firstRefusal, perform, libraryStep}
+use Rattle.model.specs.Steps.{unaltered, conditions, firstRefusal, perform, libraryStep, refusalNumbers, FirstIs}
 use Rattle.model.specs.Waits.{Wait, State, objectAt, attempt, anyAbandoned, Woken, wakeByWalk}
 use Rattle.model.proofs.Waking.{walk-nothing}
 use Rattle.model.proofs.Logic.{byBool, byOption, clash, differ}

@@ -12,13 +12,20 @@ use lib.Seq.{sets, sets-eq, getD-append-add, take-append-add, drop-append-add, d
 use lib.Dec.{eqb}
 use borrow.Author.Tests.{ltb-false, eqb-true, eqb-false, not-true}
 use Rattle.model.specs.Basics.{bit, tabulate, joined}
-use Rattle.model.specs.Claims.{_isIn_}
-use Rattle.model.specs.Layout.{objectSize, headerSize, waitSize, tableLength, objectCell, waitCell, objectCells, modeCell, waitCells, encode, objectOf, inObject, inWait, waitOf, view, distinctTickets}
+use Rattle.model.specs.Layout.{objectSize, headerSize, waitSize, waitsBase, tableLength, objectCells, modeCell, waitCells, encode, objectOf, inObject, inWait, waitOf, view, distinctTickets}
 use Rattle.model.specs.Sizes.{objectPlaces, waitPlaces, maxListed}
 use Rattle.model.specs.Objects.{Object, empty, semaphore, mutex, event}
+use Rattle.model.specs.Steps.{_isIn_}
 use Rattle.model.specs.Waits.{Mode, any, all, Wait, WaitPlace, free, waiting, State, withObjects, withWaits, objectAt, putObject, dequeue, anyWaiting}
 use Rattle.model.proofs.Logic.{byBool, differ, and-split, eqb-same, passed}
 use Rattle.model.proofs.Valid.{Valid, waiting-none}
+
+-- the first cell of an object place, of a wait place
+abbrev pub objectCell : ℕ → ℕ
+objectCell p = 1 + objectSize * p
+
+abbrev pub waitCell : ℕ → ℕ
+waitCell p = waitsBase + waitSize * p
 
 -- one law for blocks of any size k
 module _ {A : Type 0} (f : A → List ℕ) (k : ℕ) (size : (x : A) → length (f x) ≡ k) where

@@ -7,7 +7,7 @@ use native.Mathlib.Nat.{le-refl, pow-suc, div-lt-iff-lt-mul}
 use lib.ListN.{length, length-append}
 use lib.Dec.{ltb}
 use borrow.Author.Tests.{ltb-true, ltb-false, lt-ltb, le-ltb}
-use Rattle.model.specs.Snapshot.{digitsUpTo, digits}
+use Rattle.model.specs.Snapshot.{digitsUpTo}
 use Rattle.model.specs.Sizes.{word32, word64}
 use Rattle.model.proofs.Logic.{byBool}
 
@@ -25,6 +25,9 @@ unfolding digitsUpTo
 digits-enough zero n h = let z : 10 ^ 1 ≡ 10 = refl in rw (lt-ltb n 10 (omega arith))
 digits-enough (suc f) n h = bySize n (λ s. rw (lt-ltb n 10 s))
     (λ l. rw (le-ltb n 10 l) (ap (λ (x : List ℕ). x ++ ((48 + n % 10) ∷ [])) (digits-enough f (n / 10) (tenth (suc f) n h))))
+
+abbrev pub digits : ℕ → List ℕ
+digits n = digitsUpTo 19 n
 
 -- THE TWO LAWS
 pub digits-one : (n : ℕ) → n < 10 → digits n ≡ (48 + n) ∷ []

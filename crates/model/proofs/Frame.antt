@@ -11,9 +11,8 @@ use lib.Dec.{eqb, ltb}
 use borrow.Author.Tests.{eqb-true, eqb-false, not-true, ne-eqb}
 use Rattle.model.specs.Basics.{member, All}
 use Rattle.model.specs.Calls.{Signal, post, unlock, kill, setEvent, pulseEvent, Operation, create, close, resetEvent, read, signal, wait, expire, cancel, snapshot, Call, clearsAfter, newObject, newHandle, listTooShort, waitFaults, timeUp, newWait, enqueue, refusals, Change, admits, endEach, change}
-use Rattle.model.specs.Claims.{_isIn_, takenListed, takenBy, touched}
 use Rattle.model.specs.Objects.{Object, empty, signaled, acquired}
-use Rattle.model.specs.Steps.{libraryStep}
+use Rattle.model.specs.Steps.{libraryStep, _isIn_, takenListed, takenBy, touched}
 use Rattle.model.specs.Waits.{Mode, any, all, Wait, WaitPlace, free, waiting, State, withWaits, objectAt, putObject, Grant, allSignaled, look, attempt, acquireEach, anyAbandoned, servedAnswer, dequeue, oldest, concernedBy, Report, serve, tryToServe, walkQueue, wakeByWalk}
 use Rattle.model.proofs.History.{endEach-objects}
 use Rattle.model.proofs.Waking.{after, walk-keeps, walk-nothing}

@@ -10,11 +10,10 @@ use lib.Dec.{eqb, lit<}
 use borrow.Author.Tests.{eqb-true, eqb-false}
 use Rattle.model.specs.Basics.{member}
 use Rattle.model.specs.Calls.{Operation, create, close, resetEvent, read, signal, wait, expire, cancel, snapshot, Call, newObject, newHandle, waitFaults, timeUp, newWait, refusals, Change, admits, endEach, change, Fits}
-use Rattle.model.specs.Claims.{_isIn_, Quiet}
 use Rattle.model.specs.Layout.{validObject, distinctTickets}
 use Rattle.model.specs.Sizes.{objectPlaces, waitPlaces}
 use Rattle.model.specs.Objects.{Object, empty, occupied, cleared}
-use Rattle.model.specs.Steps.{conditions, firstRefusal, libraryStep, referenceStep}
+use Rattle.model.specs.Steps.{conditions, firstRefusal, libraryStep, referenceStep, _isIn_, Quiet}
 use Rattle.model.specs.Waits.{Wait, free, State, initial, withObjects, withWaits, objectAt, putAt, putObject, attempt, servable, dequeue, oldest, namedBy, wakeByWalk, wakeBySearch}
 use Rattle.model.proofs.Waking.{Unaffected, search-quiet, walking-is-searching}
 use Rattle.model.proofs.Logic.{byBool, byOption, clash, fault-free}

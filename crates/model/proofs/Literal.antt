@@ -12,16 +12,16 @@ use lib.Dec.{eqb, ltb, leb}
 use borrow.Author.Tests.{ltb-true, ltb-false, leb-true, eqb-true, eqb-false, not-true, lt-ltb, le-ltb, le-leb, eq-eqb, ne-eqb}
 use Rattle.model.specs.Basics.{queued, bit, member, hasRepeat, tabulate}
 use Rattle.model.specs.Calls.{listTooShort, allOccupied, repeats}
-use Rattle.model.specs.Claims.{_isIn_}
-use Rattle.model.specs.Layout.{objectSize, headerSize, waitSize, waitsBase, tableLength, objectCell, waitCell, objectCells, modeCell, waitCells, encode, objectOf, inObject, inWait, waitOf, view, validObject, validWait, distinctTickets, validTables}
+use Rattle.model.specs.Layout.{objectSize, headerSize, waitSize, waitsBase, tableLength, objectCells, modeCell, waitCells, encode, objectOf, inObject, inWait, waitOf, view, validObject, validWait, distinctTickets, validTables}
 use Rattle.model.specs.Sizes.{objectPlaces, waitPlaces, maxListed, word32, word64}
 use Rattle.model.specs.Objects.{Object, empty, semaphore, mutex, event, occupied, isEvent, abandoned}
 use Rattle.model.specs.ValidCells.{Occupied, OfEvent, ValidObject, ValidWait, ValidCells}
+use Rattle.model.specs.Steps.{_isIn_}
 use Rattle.model.specs.Waits.{Mode, any, all, Wait, WaitPlace, free, waiting, State, objectAt, anyWaiting}
 use Rattle.model.proofs.Logic.{byBool, clash, differ, and-split, or-left, or-right, or-split, eqb-same, passed, pass}
 use Rattle.model.proofs.Validity.{tables-valid, encoded-valid}
 use Rattle.model.proofs.Valid.{Valid, none-waiting, waiting-none, allOccupied-in, event-occupied}
-use Rattle.model.proofs.Cells.{read-object, flag, viewObject, viewWait, read-wait, encode-length, read-next, at-in, in-at, byPlace, Holds, holds, free-cell, ticket-is, mode-is, owner-is, clock-is, timeout-is, count-is, alert-is, list-is, rest-is}
+use Rattle.model.proofs.Cells.{objectCell, waitCell, read-object, flag, viewObject, viewWait, read-wait, encode-length, read-next, at-in, in-at, byPlace, Holds, holds, free-cell, ticket-is, mode-is, owner-is, clock-is, timeout-is, count-is, alert-is, list-is, rest-is}
 
 eqb-nonzero : (n : ℕ) → 0 < n → eqb n 0 ≡ false
 eqb-nonzero n h = ne-eqb n 0 (λ e. let z : ⊥ = omega arith in z)

@@ -8,7 +8,7 @@ use native.Mathlib.Omega.{arith}
 use lib.ListN.{getD}
 use lib.Dec.{eqb}
 use borrow.Author.Tests.{eq-eqb}
-use Rattle.model.specs.Basics.{anyOf, allOf}
+use Rattle.model.specs.Basics.{maybe, anyOf, allOf}
 
 pub byBool {ℓ} : {P : Type ℓ} (b : Bool) → (b ≡ true → P) → (b ≡ false → P) → P
 byBool true t f = t refl
@@ -17,6 +17,9 @@ byBool false t f = f refl
 pub byOption {ℓ κ} : {A : Type ℓ} {P : Type κ} (o : Option A) → (o ≡ none → P) → ((a : A) → o ≡ some a → P) → P
 byOption none n s = n refl
 byOption (some a) n s = s a refl
+
+abbrev pub isSome {ℓ} : {A : Type ℓ} → Option A → Bool
+isSome o = maybe o false (λ a. true)
 
 pub clash {ℓ} : {P : Type ℓ} {b : Bool} → b ≡ true → b ≡ false → P
 clash {b = b} t f = let z : _≡_ {A = ℕ} 0 1 = cc in absurd (omega arith)

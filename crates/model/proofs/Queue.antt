@@ -12,7 +12,7 @@ use lib.Dec.{eqb, ltb}
 use borrow.Author.Tests.{ltb-true, ltb-false, eqb-false}
 use Rattle.model.specs.Basics.{member}
 use Rattle.model.specs.Calls.{enqueue}
-use Rattle.model.specs.Claims.{_isIn_}
+use Rattle.model.specs.Steps.{_isIn_}
 use Rattle.model.specs.Waits.{Wait, WaitPlace, free, waiting, dequeue, lowerTicket, oldest, namedBy, concernedBy}
 use Rattle.model.proofs.Logic.{byBool, byOption, clash, differ, or-split}
 

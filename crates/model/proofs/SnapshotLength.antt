@@ -13,13 +13,13 @@ use lib.Dec.{eqb, ltb, leb, lit≤}
 use borrow.Author.Tests.{ltb-true, ltb-false, leb-true, eqb-true, eqb-false, not-true, not-false}
 use Rattle.model.specs.Basics.{bit, allOf, tabulate, joined}
 use Rattle.model.specs.Calls.{allOccupied}
-use Rattle.model.specs.Snapshot.{ascii, digitsUpTo, digits, line, objectText, objectsText, objectCount, modeText, clockText, waitText, queueFrom, snapshotText}
-use Rattle.model.specs.Claims.{_isIn_}
+use Rattle.model.specs.Snapshot.{ascii, digitsUpTo, line, objectText, objectsText, objectCount, modeText, clockText, waitText, queueFrom, snapshotText}
 use Rattle.model.specs.Layout.{validObject, validWait, distinctTickets}
 use Rattle.model.specs.Sizes.{objectPlaces, waitPlaces, maxListed, word32, word64, mutexCeiling, never, snapshotBuffer, longestSnapshot}
 use Rattle.model.specs.Objects.{Object, empty, semaphore, mutex, event, occupied, isEvent}
+use Rattle.model.specs.Steps.{_isIn_}
 use Rattle.model.specs.Waits.{Mode, any, all, Wait, WaitPlace, waiting, State, objectAt, oldest}
-use Rattle.model.proofs.Digits.{digits-bound, digits-u32, digits-u64}
+use Rattle.model.proofs.Digits.{digits, digits-bound, digits-u32, digits-u64}
 use Rattle.model.proofs.Logic.{byBool, byOption, clash, and-split, passed}
 use Rattle.model.proofs.Validity.{test-valid}
 use Rattle.model.proofs.Literal.{in-places}

@@ -9,17 +9,16 @@ use native.Mathlib.Omega.{arith}
 use lib.ListN.{length, getD}
 use lib.Dec.{eqb, ltb, leb}
 use borrow.Author.Tests.{leb-false, eqb-false, le-ltb, lt-leb, eq-eqb, ne-eqb}
-use Rattle.model.specs.Basics.{corrupt, maybe, isSome, anyOf, member, joined, All}
+use Rattle.model.specs.Basics.{corrupt, maybe, anyOf, member, joined, All}
 use Rattle.model.specs.Calls.{wait, cancel, Lent, lend, Call, least, refusal, waitFaults, timeUp, newWait, mustQueue, waitsFull, refusals, admits, change, Fits}
-use Rattle.model.specs.Claims.{refusalNumbers, FirstIs, Quiet, touched}
 use Rattle.model.specs.Layout.{objectSize, tableLength, objectCells, waitCells, encode, inObject, view, validTables}
 use Rattle.model.specs.Sizes.{objectPlaces, word64}
 use Rattle.model.specs.Objects.{Object}
-use Rattle.model.specs.Steps.{Outcome, unaltered, conditions, firstRefusal, libraryStep, referenceStep, onTables, tableStep, run, initialTables, makeTables, tableEntry, referenceEntry}
+use Rattle.model.specs.Steps.{Outcome, unaltered, conditions, firstRefusal, libraryStep, referenceStep, onTables, tableStep, run, initialTables, makeTables, refusalNumbers, FirstIs, Quiet, touched}
 use Rattle.model.specs.Waits.{Mode, Wait, free, waiting, State, initial, objectAt, Grant, attempt, servable, anyAbandoned, servedAnswer, wakeByWalk, wakeBySearch}
 use Rattle.model.proofs.History.{Settled, step-same, step-settled, initial-settled}
 use Rattle.model.proofs.Waking.{each}
-use Rattle.model.proofs.Logic.{byBool, byOption, clash}
+use Rattle.model.proofs.Logic.{byBool, byOption, isSome, clash}
 use Rattle.model.proofs.Frame.{Untaken, Unreported, step-objects, UsedPlace, step-stays, step-free}
 use Rattle.model.proofs.Validity.{tables-valid, encoded-valid}
 use Rattle.model.proofs.Rules.{perform-case}
@@ -183,6 +182,12 @@ make-short t n = rw (ne-eqb (length t) tableLength n)
 pub make-either : (t : List ℕ) → (length t ≡ tableLength → makeTables t ≡ unaltered 0 (lend [] []) initialTables)
     × ((length t ≡ tableLength → ⊥) → makeTables t ≡ unaltered 9 (lend [] []) t)
 make-either t = (make-exactly t, make-short t)
+
+abbrev tableEntry : List ℕ → Option Call → Outcome (List ℕ)
+tableEntry t e = maybe e (makeTables t) (tableStep t)
+
+abbrev referenceEntry : State → Option Call → Outcome State
+referenceEntry s e = maybe e (unaltered 0 (lend [] []) initial) (referenceStep s)
 
 encoded-long : (s : State) → Settled s → length (encode s) ≡ tableLength
 encoded-long s t = encode-length s (t .valid .places) (t .valid .slots)

@@ -10,11 +10,10 @@ use lib.ListN.{length, getD}
 use Rattle.model.specs.Basics.{corrupt, maybe, anyOf, member, All}
 use Rattle.model.specs.Calls.{wait, cancel, Lent, lend, Call, refusal, waitFaults, timeUp, newWait, waitsFull, Fits}
 use Rattle.model.specs.Snapshot.{snapshotText}
-use Rattle.model.specs.Claims.{refusalNumbers, FirstIs, _isIn_, Quiet, takenBy, touched}
 use Rattle.model.specs.Layout.{objectSize, tableLength, encode, inObject, view, validState, validTables}
 use Rattle.model.specs.Sizes.{objectPlaces, word64, snapshotBuffer, longestSnapshot}
 use Rattle.model.specs.ValidCells.{ValidCells}
-use Rattle.model.specs.Steps.{unaltered, conditions, referenceStep, onTables, tableStep, run, initialTables, makeTables, tableEntry, referenceEntry}
+use Rattle.model.specs.Steps.{unaltered, conditions, referenceStep, onTables, tableStep, run, initialTables, makeTables, refusalNumbers, FirstIs, _isIn_, Quiet, takenBy, touched}
 use Rattle.model.specs.Waits.{Mode, Wait, free, waiting, State, initial, objectAt, servable}
 use Rattle.model.proofs.History.{initial-settled}
 use Rattle.model.proofs.SnapshotLength.{snapshot-longest, snapshot-fits, longest, longest-length, longest-valid}
@@ -41,12 +40,13 @@ pub demand-3-from : (s : State) → validState s ≡ true → Quiet s → (cs : 
 demand-3-from s v q cs fit = settled-run s cs fit (record { valid = test-valid s v; quiet = q })
 
 -- 1b. Making, on tables of the right length and whatever their cells, gives newly made tables and answer 0; on others it is 9
--- and nothing altered. A list of calls with makings (`none`) in it is a row of histories, each begun anew.
+-- and nothing altered. A list of calls with makings (`none`) in it is a row of histories, each begun anew ("Making starts a new history").
 pub making : (t : List ℕ) → (length t ≡ tableLength → makeTables t ≡ unaltered 0 (lend [] []) initialTables)
     × ((length t ≡ tableLength → ⊥) → makeTables t ≡ unaltered 9 (lend [] []) t)
 making t = make-either t
 
-pub rows-of-histories : (es : List (Option Call)) → All (λ e. maybe e (Unit {0}) Fits) es → run tableEntry initialTables es ≡ map onTables (run referenceEntry initial es)
+pub rows-of-histories : (es : List (Option Call)) → All (λ e. maybe e (Unit {0}) Fits) es → run (λ t e. maybe e (makeTables t) (tableStep t)) initialTables es
+    ≡ map onTables (run (λ s e. maybe e (unaltered 0 (lend [] []) initial) (referenceStep s)) initial es)
 rows-of-histories es fit = rw (← initial-tables) (settled-rows initial es fit initial-settled)
 
 -- 2. After every call of a history no queued wait could be served.

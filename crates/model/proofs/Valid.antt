@@ -10,16 +10,15 @@ use native.Mathlib.Omega.{arith}
 use lib.ListN.{length, getD, length-set}
 use lib.Dec.{eqb, ltb, leb, eqb·suc-zero}
 use borrow.Author.Tests.{ltb-true, ltb-false, leb-true, leb-false, eqb-true, eqb-false, not-true, not-false, lt-ltb, le-leb, ne-eqb}
-use Rattle.model.specs.Basics.{isSome, anyOf, member, hasRepeat}
+use Rattle.model.specs.Basics.{anyOf, member, hasRepeat}
 use Rattle.model.specs.Calls.{Operation, create, close, resetEvent, read, signal, wait, expire, cancel, snapshot, Lent, Call, newObject, newHandle, allOccupied, repeats, waitFaults, timeUp, newWait, mustQueue, enqueue, refusals, Change, admits, endEach, change, Fits}
-use Rattle.model.specs.Claims.{_isIn_}
 use Rattle.model.specs.Layout.{validObject, validWait, distinctTickets}
 use Rattle.model.specs.Sizes.{objectPlaces, waitPlaces, word32, word64, mutexCeiling}
 use Rattle.model.specs.Objects.{Object, empty, semaphore, mutex, event, occupied, isEvent, signaled, acquired, cleared}
-use Rattle.model.specs.Steps.{libraryStep}
+use Rattle.model.specs.Steps.{libraryStep, _isIn_}
 use Rattle.model.specs.Waits.{Mode, any, all, Wait, WaitPlace, free, waiting, State, withObjects, withWaits, objectAt, putAt, putObject, Grant, lowestSignaled, allSignaled, look, attempt, acquireEach, dequeue, oldest, anyWaiting, namedBy, concernedBy, walkQueue, wakeByWalk}
 use Rattle.model.proofs.Waking.{Consistent, walk-keeps}
-use Rattle.model.proofs.Logic.{byBool, byOption, clash, differ, _implies_, and-split, or-left, or-right, or-mono, or-split, eqb-same, passed, pass, fault-free}
+use Rattle.model.proofs.Logic.{byBool, byOption, isSome, clash, differ, _implies_, and-split, or-left, or-right, or-mono, or-split, eqb-same, passed, pass, fault-free}
 use Rattle.model.proofs.Rules.{Accepted, clear, due, perform-case, Keeps, signal-keeps, reset-keeps, new-valid, new-place}
 use Rattle.model.proofs.Acquiring.{at-put, at-put-other, acquireAt, attempt-signaled}
 use Rattle.model.proofs.Queue.{oldest-none, Distinct, oldest-is-none, dequeue-in, enqueue-in, concerned-one}

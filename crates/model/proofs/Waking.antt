@@ -9,11 +9,11 @@ use native.Mathlib.Nat.{le-refl, le-antisymm}
 use lib.ListN.{length}
 use lib.Dec.{eqb, ltb}
 use borrow.Author.Tests.{ltb-true, ltb-false, lt-ltb, le-ltb}
-use Rattle.model.specs.Basics.{isSome, member}
-use Rattle.model.specs.Claims.{_isIn_, Quiet}
+use Rattle.model.specs.Basics.{member}
 use Rattle.model.specs.Objects.{Object, occupied}
+use Rattle.model.specs.Steps.{_isIn_, Quiet}
 use Rattle.model.specs.Waits.{Wait, WaitPlace, State, objectAt, Grant, attempt, servable, acquireEach, dequeue, oldest, namedBy, concernedBy, Woken, noneWoken, andThen, serve, tryToServe, walkQueue, searchQueue}
-use Rattle.model.proofs.Logic.{byBool, byOption, clash, and-split, eqb-same}
+use Rattle.model.proofs.Logic.{byBool, byOption, isSome, clash, and-split, eqb-same}
 use Rattle.model.proofs.Acquiring.{signaled-mine, Less, acquireEach-less, acquireEach-occupied, attempt-signaled, servable-mono}
 use Rattle.model.proofs.Queue.{oldest-none, Oldest, oldest-some, Distinct, oldest-is, oldest-is-none, dequeue-in, count, count-length, count-zero, count-le, count-lt, count-dequeue}
 

@@ -25,15 +25,10 @@ number busy = 10  -- "closing an object that a queued wait names"
 number queued = 11  -- "the wait has a ticket"
 number listShort = 12  -- "wake list under 32 records, or picture buffer under 32,768 bytes"
 
--- TOOLS
 -- what an optional value is worth: b where there is none
 abbrev pub maybe {ℓ κ} : {A : Type ℓ} {B : Type κ} → Option A → B → (A → B) → B
 maybe none b f = b
 maybe (some a) b f = f a
-
-abbrev pub isSome {ℓ} : {A : Type ℓ} → Option A → Bool
-isSome none = false
-isSome (some a) = true
 
 -- a flag as a number
 abbrev pub bit : Bool → ℕ

@@ -28,12 +28,6 @@ waitsBase = 1 + objectSize * objectPlaces
 abbrev pub tableLength : ℕ
 tableLength = waitsBase + waitSize * waitPlaces
 
-abbrev pub objectCell : ℕ → ℕ
-objectCell p = 1 + objectSize * p
-
-abbrev pub waitCell : ℕ → ℕ
-waitCell p = waitsBase + waitSize * p
-
 -- ENCODING. An object: its kind (0 empty, 1 semaphore, 2 mutex, 3 event), its count (an event's signaled flag), its
 -- owner (a mutex's, else 0), its attribute (a semaphore's maximum, a mutex's abandoned flag, an event's manual flag).
 unfoldable pub objectCells : Object → List ℕ
@@ -61,10 +55,10 @@ objectOf kind count owner attribute = cond (eqb kind 0) empty (cond (eqb kind 1)
 
 -- cell j of object place p, of wait place p
 abbrev pub inObject : List ℕ → ℕ → ℕ → ℕ
-inObject t p j = getD t (objectCell p + j) 0
+inObject t p j = getD t (1 + objectSize * p + j) 0
 
 abbrev pub inWait : List ℕ → ℕ → ℕ → ℕ
-inWait t p j = getD t (waitCell p + j) 0
+inWait t p j = getD t (waitsBase + waitSize * p + j) 0
 
 abbrev pub waitOf : (ℕ → ℕ) → WaitPlace
 waitOf cell = cond (eqb (cell 0) 0) free (waiting record {

@@ -7,4 +7,3 @@ pub mod Calls
 pub mod Layout
 pub mod Steps
 pub mod ValidCells
-pub mod Claims

@@ -21,12 +21,9 @@ unfoldable pub digitsUpTo : ℕ → ℕ → List ℕ
 digitsUpTo zero n = (48 + n % 10) ∷ []
 digitsUpTo (suc k) n = let front = digitsUpTo k (n / 10) in cond (ltb n 10) [] front ++ ((48 + n % 10) ∷ [])
 
-abbrev pub digits : ℕ → List ℕ
-digits n = digitsUpTo 19 n
-
 -- "Lines `key=value`, line feed after each"
 unfoldable pub line : String → ℕ → List ℕ
-line key n = ascii key ++ (digits n ++ (10 ∷ []))
+line key n = ascii key ++ (digitsUpTo 19 n ++ (10 ∷ []))
 
 unfoldable pub objectText : ℕ → Object → List ℕ
 objectText h empty = []

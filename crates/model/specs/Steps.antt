@@ -1,16 +1,18 @@
 -- A call's outcome: by the library on lent tables, as every public contract states it, and by the reference (01: the fresh
--- reckoning) on a state. Making, and histories.
-use mathlib.Core.Bool.{Bool, true, false, not, _||_, cond}
+-- reckoning) on a state. Making, histories, and the notions in which the theorems speak.
+use mathlib.Core.Path.{_≡_}
+use mathlib.Core.Bool.{Bool, true, false, _||_, cond}
 use mathlib.Core.List.{List, [], _∷_, _++_}
 use mathlib.Core.Option.{Option, none, some}
+use mathlib.Core.Logic.{_⊎_}
 use Prim.Native.Nat.{ℕ, _+_, _*_}
-use lib.ListN.{length, replicate}
+use lib.ListN.{length, getD, replicate}
 use lib.Dec.{eqb, ltb}
 use Rattle.model.specs.Sizes.{objectPlaces, waitPlaces}
 use Rattle.model.specs.Basics.{maybe, overwrite, number, done, corrupt, listShort}
 use Rattle.model.specs.Objects.{cleared}
-use Rattle.model.specs.Waits.{State, initial, objectAt, putObject, Report, Woken, wakeByWalk, wakeBySearch}
-use Rattle.model.specs.Calls.{Operation, Lent, lend, Call, least, Refusal, refusal, refusals, Change, change, Fits}
+use Rattle.model.specs.Waits.{Mode, any, all, Wait, WaitPlace, free, waiting, State, objectAt, putObject, servable, Report, Woken, wakeByWalk, wakeBySearch}
+use Rattle.model.specs.Calls.{Operation, create, close, resetEvent, read, signal, wait, expire, cancel, snapshot, Lent, lend, Call, least, Refusal, refusal, refusals, newWait, Change, change}
 use Rattle.model.specs.Layout.{objectSize, waitSize, tableLength, encode, view, validTables}
 
 -- "equal after each call in: the answer and all numbers with it; the reports (ticket, answer, index) in order ..; every
@@ -76,9 +78,42 @@ initialTables = 1 ∷ replicate (objectSize * objectPlaces + waitSize * waitPlac
 unfoldable pub makeTables : List ℕ → Outcome (List ℕ)
 makeTables t = cond (eqb (length t) tableLength) (unaltered (number done) (lend [] []) initialTables) (unaltered (number corrupt) (lend [] []) t)
 
--- "Making starts a new history": a row of histories is a list of calls in which `none` stands for a making
-abbrev pub tableEntry : List ℕ → Option Call → Outcome (List ℕ)
-tableEntry t e = maybe e (makeTables t) (λ c. tableStep t c)
+-- NOTIONS OF THE THEOREMS. "Refusals are 1, 2, 3, 7, 8, 9, 10 and 12."
+abbrev pub refusalNumbers : List ℕ
+refusalNumbers = 1 ∷ 2 ∷ 3 ∷ 7 ∷ 8 ∷ 9 ∷ 10 ∷ 12 ∷ []
 
-abbrev pub referenceEntry : State → Option Call → Outcome State
-referenceEntry s e = maybe e (unaltered (number done) (lend [] []) initial) (λ c. referenceStep s c)
+-- of the conditions, in order, the first that holds has number n
+abbrev pub FirstIs : ℕ → List Refusal → Type 0
+FirstIs n [] = ⊥
+FirstIs n (r ∷ rs) = ((r .holds ≡ true) × (r .number ≡ n)) ⊎ ((r .holds ≡ false) × FirstIs n rs)
+
+-- a wait stands in the queue
+infix 40 _isIn_
+abbrev pub _isIn_ : Wait → List WaitPlace → Type 0
+_isIn_ w [] = ⊥
+_isIn_ w (free ∷ ws) = w isIn ws
+_isIn_ w (waiting v ∷ ws) = (w ≡ v) ⊎ (w isIn ws)
+
+-- no queued wait could be served
+abbrev pub Quiet : State → Type 0
+Quiet s = (w : Wait) → w isIn s .waits → servable (s .objects) w ≡ false
+
+-- the handles of the objects that a served wait took, read from its list and the index of its answer
+abbrev pub takenListed : Mode → List ℕ → ℕ → List ℕ
+takenListed any hs i = getD hs i 0 ∷ []
+takenListed all hs i = hs
+
+abbrev pub takenBy : Wait → ℕ → List ℕ
+takenBy w i = cond (eqb i (length (w .list))) (w .alert ∷ []) (takenListed (w .mode) (w .list) i)
+
+-- the handles of the objects that a call makes, names or takes at once, given its answer and first number
+abbrev pub touched : Operation → ℕ → ℕ → List ℕ
+touched (create k x y) a h = h ∷ []
+touched (close h) a n = h ∷ []
+touched (resetEvent h) a n = h ∷ []
+touched (read k h) a n = []
+touched (signal how h) a n = h ∷ []
+touched (wait mode hs o f p al t now) a i = cond (eqb a 0 || eqb a 4) (takenBy (newWait mode hs o f al t 0) i) []
+touched (expire c t) a n = []
+touched (cancel t) a n = []
+touched snapshot a n = []

@@ -1,5 +1,4 @@
--- Waits and states; an attempt, being served; the library's wake walk, and the search of the reference (01: the fresh
--- reckoning). Document 01, "Calls" and "The fresh reckoning".
+-- Waits, states, attempts, the library's wake walk, and the search of the reference (01: the fresh reckoning).
 use mathlib.Core.Bool.{Bool, true, false, _&&_, _||_, cond}
 use mathlib.Core.List.{List, [], _∷_, _++_}
 use mathlib.Core.Option.{Option, none, some}
@@ -7,7 +6,7 @@ use Prim.Native.Nat.{ℕ, zero, suc}
 use lib.ListN.{length, getD, set, replicate}
 use lib.Dec.{eqb, ltb}
 use Rattle.model.specs.Sizes.{objectPlaces, waitPlaces}
-use Rattle.model.specs.Basics.{maybe, isSome, member, number, done, ownerDead}
+use Rattle.model.specs.Basics.{maybe, member, number, done, ownerDead}
 use Rattle.model.specs.Objects.{Object, empty, signaled, acquired, abandoned}
 
 pub data Mode : Type 0 where
@@ -86,7 +85,7 @@ attempt os w = maybe (look (w .mode) (w .owner) os (w .list))
 
 -- "A wait can be served if an attempt now would succeed, by list or alert, whatever its timeout"
 abbrev pub servable : List Object → Wait → Bool
-servable os w = isSome (attempt os w)
+servable os w = maybe (attempt os w) false (λ g. true)
 
 -- "it takes the objects which that attempt acquires"
 unfoldable pub acquireEach : ℕ → List Object → List ℕ → List Object
@@ -118,7 +117,7 @@ oldest f (free ∷ ws) = oldest f ws
 oldest f (waiting w ∷ ws) = cond (f w) (lowerTicket w (oldest f ws)) (oldest f ws)
 
 abbrev pub anyWaiting : (Wait → Bool) → List WaitPlace → Bool
-anyWaiting f ws = isSome (oldest f ws)
+anyWaiting f ws = maybe (oldest f ws) false (λ w. true)
 
 -- The handles that a wait's list or alert names; it is concerned if one of the changed objects is among them.
 abbrev pub namedBy : Wait → List ℕ
