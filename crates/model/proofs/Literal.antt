@@ -27,13 +27,13 @@ eqb-nonzero : (n : ℕ) → 0 < n → eqb n 0 ≡ false
 eqb-nonzero n h = ne-eqb n 0 (λ e. let z : ⊥ = omega arith in z)
 
 -- owner 0 exactly when count 0, as a test
-same-zero : (a b : ℕ) → eqb (bit (eqb a 0)) (bit (eqb b 0)) ≡ true → (a ≡ 0 → b ≡ 0) × (b ≡ 0 → a ≡ 0)
+pub same-zero : (a b : ℕ) → eqb (bit (eqb a 0)) (bit (eqb b 0)) ≡ true → (a ≡ 0 → b ≡ 0) × (b ≡ 0 → a ≡ 0)
 same-zero a b e = (
   λ z. eqb-true b 0 (byBool (eqb b 0) (λ y. y) (λ n. clash (let q : eqb (bit true) (bit false) ≡ true = rw (eq-eqb a 0 z, n) at e in q) refl)),
   λ z. eqb-true a 0 (byBool (eqb a 0) (λ y. y) (λ n. clash (let q : eqb (bit false) (bit true) ≡ true = rw (eq-eqb b 0 z, n) at e in q) refl)),
 )
 
-zero-same : (a b : ℕ) → (a ≡ 0 → b ≡ 0) → (b ≡ 0 → a ≡ 0) → eqb (bit (eqb a 0)) (bit (eqb b 0)) ≡ true
+pub zero-same : (a b : ℕ) → (a ≡ 0 → b ≡ 0) → (b ≡ 0 → a ≡ 0) → eqb (bit (eqb a 0)) (bit (eqb b 0)) ≡ true
 zero-same a b f g = byBool (eqb a 0) (λ y. rw (y, eq-eqb b 0 (f (eqb-true a 0 y)))) (λ n. rw (n, ne-eqb b 0 (λ z. eqb-false a 0 n (g z))))
 
 bit-low : (b : Bool) → bit b ≤ 1
@@ -92,7 +92,7 @@ object-lines (event s m) g = record {
   event = λ e. (bit-low s, bit-low m, refl);
 }
 
-byNumber : {P : Type 0} (k : ℕ) → k ≤ 3 → (k ≡ 0 → P) → (k ≡ 1 → P) → (k ≡ 2 → P) → (k ≡ 3 → P) → P
+pub byNumber : {P : Type 0} (k : ℕ) → k ≤ 3 → (k ≡ 0 → P) → (k ≡ 1 → P) → (k ≡ 2 → P) → (k ≡ 3 → P) → P
 byNumber k l p0 p1 p2 p3 = byBool (eqb k 0) (λ y. p0 (eqb-true k 0 y)) (λ n0. byBool (eqb k 1) (λ y. p1 (eqb-true k 1 y)) (λ n1. byBool (eqb k 2) (λ y. p2 (eqb-true k 2 y))
     (λ n2. let a : k ≡ 0 → ⊥ = eqb-false k 0 n0 in let b : k ≡ 1 → ⊥ = eqb-false k 1 n1 in let c : k ≡ 2 → ⊥ = eqb-false k 2 n2 in p3 (omega arith))))
 
@@ -180,7 +180,7 @@ module _ (s : State) (full : length (s .objects) ≡ objectPlaces) where
   line-event h o = kind-event (objectAt (s .objects) h) (sym (kind-at h (o .low) (o .high)) ∙ o .kind)
 
 -- LISTS
-member-at : (a : ℕ) (hs : List ℕ) → member a hs ≡ true → (k : ℕ) × (k < length hs) × (getD hs k 0 ≡ a)
+pub member-at : (a : ℕ) (hs : List ℕ) → member a hs ≡ true → (k : ℕ) × (k < length hs) × (getD hs k 0 ≡ a)
 unfolding member
 member-at a [] e = clash e refl
 member-at a (h ∷ hs) e = byBool (eqb a h) (λ y. (0, omega arith, sym (eqb-true a h y)))

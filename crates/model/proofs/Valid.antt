@@ -262,7 +262,7 @@ create-valid : (s : State) (x : Object) → Valid s → validObject x ≡ true �
 create-valid s x g e = valid-put s (newHandle s) x g e
     (subst (λ (y : Object). Still y x) (sym ((new-place s) .0)) (λ y. clash y refl, λ y. clash y refl))
 
-keeps-valid : (s : State) (h : ℕ) (x : Object) → Valid s → Keeps (objectAt (s .objects) h) x → Valid (putObject s h x)
+pub keeps-valid : (s : State) (h : ℕ) (x : Object) → Valid s → Keeps (objectAt (s .objects) h) x → Valid (putObject s h x)
 keeps-valid s h x g k = valid-put s h x g (k .valid (g .objects h)) (λ z. k .there, k .event)
 
 close-valid : (h : ℕ) (s : State) → Valid s → anyWaiting (concernedBy (h ∷ [])) (s .waits) ≡ false → Valid (putObject s h empty)

@@ -1,0 +1,44 @@
+-- The snapshot's text in the shape of its writer.
+use Prim.Native.Nat.{ℕ, zero, suc, _+_}
+use mathlib.Core.List.{List, [], _∷_, _++_}
+use mathlib.Core.Bool.{Bool, true, false, cond}
+use lib.ListN.{length, getD}
+use lib.Dec.{eqb, ltb}
+use Rattle.model.specs.Sizes.{objectPlaces, waitPlaces}
+use Rattle.model.specs.Basics.{bit}
+use Rattle.model.specs.Snapshot.{ascii, line}
+use Rattle.cells.specs.Fold.{foldBelow}
+use Rattle.cells.specs.Objects.{Fields, fieldsAt}
+use Rattle.cells.specs.Waits.{nextTicket, queuedAt, ticketAt, modeAt, ownerAt, clockAt, timeoutAt, countAt, alertAt, listOf, nextWait}
+
+unfoldable pub fieldsText : ℕ → Fields → List ℕ
+fieldsText h x =
+    cond (eqb (x .kind) 1) (line "handle=" h ++ (ascii "kind=sem\n" ++ (line "count=" (x .count) ++ line "max=" (x .attribute))))
+    (cond (eqb (x .kind) 2) (line "handle=" h ++ (ascii "kind=mutex\n" ++ (line "owner=" (x .owner) ++ (line "count=" (x .count) ++ line "abandoned=" (x .attribute)))))
+    (cond (eqb (x .kind) 3) (line "handle=" h ++ (ascii "kind=event\n" ++ (line "signaled=" (x .count) ++ line "manual=" (x .attribute)))) []))
+
+-- the objects of the places below n
+unfoldable pub objectsTextBelow : List ℕ → ℕ → List ℕ
+objectsTextBelow t n = foldBelow (λ text p. text ++ fieldsText (p + 1) (fieldsAt t p)) [] n
+
+unfoldable pub objectTotal : List ℕ → ℕ
+objectTotal t = foldBelow (λ n p. n + bit (ltb 0 (fieldsAt t p .kind))) 0 objectPlaces
+
+unfoldable pub waitTotal : List ℕ → ℕ
+waitTotal t = foldBelow (λ n p. n + bit (queuedAt t p)) 0 waitPlaces
+
+unfoldable pub listTextBelow : List ℕ → ℕ → List ℕ
+listTextBelow list n = foldBelow (λ text k. text ++ line "obj=" (getD list k 0)) [] n
+
+unfoldable pub waitTextAt : List ℕ → ℕ → List ℕ
+waitTextAt t p = line "wait=" (ticketAt t p) ++ (cond (eqb (modeAt t p) 0) (ascii "mode=any\n") (ascii "mode=all\n") ++ (line "owner=" (ownerAt t p)
+    ++ (cond (eqb (clockAt t p) 0) (ascii "clock=mono\n") (ascii "clock=real\n") ++ (line "timeout=" (timeoutAt t p) ++ (line "alert=" (alertAt t p)
+    ++ (line "n=" (countAt t p) ++ listTextBelow (listOf t p) (countAt t p)))))))
+
+-- at most n waits above a ticket, lowest first
+unfoldable pub waitsTextFrom : ℕ → List ℕ → ℕ → List ℕ
+waitsTextFrom zero t last = []
+waitsTextFrom (suc n) t last = let p = nextWait t last in let rest = waitsTextFrom n t (ticketAt t p) in cond (ltb p waitPlaces) (waitTextAt t p ++ rest) []
+
+unfoldable pub snapshotOf : List ℕ → List ℕ
+snapshotOf t = line "next=" (nextTicket t) ++ (line "objects=" (objectTotal t) ++ (objectsTextBelow t objectPlaces ++ (line "waits=" (waitTotal t) ++ waitsTextFrom waitPlaces t 0)))
