@@ -1,3 +1,4 @@
+pub mod AcceptanceExamples
 pub mod Logic
 pub mod Queue
 pub mod Acquiring
@@ -14,4 +15,3 @@ pub mod SnapshotLength
 pub mod Answers
 pub mod Tables
 pub mod Theorems
-pub mod Examples

@@ -1,0 +1,143 @@
+-- P1 to P12 of document 01 ("Bench readings"), as one checked list, by computation, for the library's step and for the
+-- reference's.
+use mathlib.Core.Path.{_≡_, refl}
+use mathlib.Core.Bool.{true, false}
+use mathlib.Core.List.{List, [], _∷_, _++_, map}
+use Prim.Native.Nat.{ℕ, suc, _-_}
+use lib.ListN.{set, replicate, take}
+use Rattle.model.specs.Basics.{anyOf, allOf, member, hasRepeat, tabulate, joined}
+use Rattle.model.specs.Calls.{aSemaphore, aMutex, anEvent, post, unlock, kill, setEvent, pulseEvent, Operation, create, close, read, signal, wait, expire, cancel, lend, Call, least, lowestEmpty, allOccupied, waitsFull, enqueue, refusals, admits, endEach, change}
+use Rattle.model.specs.Snapshot.{ascii, digitsUpTo, line, objectText, objectsText, objectCount, waitText, queueFrom, snapshotText}
+use Rattle.model.specs.Layout.{tableLength, objectCells, waitCells, encode, view, distinctTickets, sameCells, validTables}
+use Rattle.model.specs.Sizes.{objectPlaces, mutexCeiling, never, wakeLength}
+use Rattle.model.specs.Steps.{Outcome, firstRefusal, records, libraryStep, referenceStep, run, initialTables}
+use Rattle.model.specs.Waits.{Mode, any, all, State, initial, lowestSignaled, allSignaled, look, attempt, acquireEach, anyAbandoned, dequeue, oldest, concernedBy, serve, tryToServe, walkQueue, searchQueue}
+
+-- what the caller hears: the answer, the two numbers, the reports as (ticket, answer, index)
+pub record Heard : Type 0 where
+  pub answer : ℕ
+  pub first : ℕ
+  pub second : ℕ
+  pub woken : List (List ℕ)
+
+abbrev heard : Outcome State → Heard
+heard o = record { answer = o .answer; first = o .first; second = o .second; woken = map (λ r. r .ticket ∷ r .answer ∷ r .index ∷ []) (o .reports) }
+
+abbrev says : ℕ → ℕ → ℕ → Heard
+says a x y = record { answer = a; first = x; second = y; woken = [] }
+
+abbrev reports : ℕ → List (List ℕ) → Heard
+reports x rs = record { answer = 0; first = x; second = 0; woken = rs }
+
+-- a call that is lent a full wake list and no buffer
+abbrev calling : Operation → Call
+calling op = record { operation = op; lent = lend (replicate wakeLength 0) [] }
+
+-- owner o waits without alert, for ever
+abbrev waits : Mode → List ℕ → ℕ → Operation
+waits m hs o = wait m hs o 0 0 0 never 0
+
+abbrev setUp : List Operation
+setUp = create aSemaphore 1 2 ∷ create anEvent 0 1 ∷ waits all (1 ∷ 2 ∷ []) 7 ∷ []
+
+abbrev pub examples : List (List Operation)
+examples =
+    (setUp ++ (signal setEvent 2 ∷ read aSemaphore 1 ∷ read anEvent 2 ∷ []))  -- P1, P2
+    ∷ (create aSemaphore 1 3 ∷ signal (post 2) 1 ∷ read aSemaphore 1 ∷ [])  -- P3
+    ∷ (create aSemaphore 1 3 ∷ signal (post 3) 1 ∷ read aSemaphore 1 ∷ [])  -- P4
+    ∷ (create anEvent 0 0 ∷ waits any (1 ∷ []) 7 ∷ waits any (1 ∷ []) 8 ∷ signal pulseEvent 1 ∷ read anEvent 1 ∷ [])  -- P5
+    ∷ (create anEvent 0 1 ∷ waits any (1 ∷ []) 7 ∷ waits any (1 ∷ []) 8 ∷ signal pulseEvent 1 ∷ read anEvent 1 ∷ [])  -- P6
+    ∷ (create aMutex 5 1 ∷ waits any (1 ∷ []) 6 ∷ waits any (1 ∷ []) 6 ∷ signal (unlock 5) 1 ∷ read aMutex 1 ∷ [])  -- P7
+    ∷ (create aMutex 5 1 ∷ waits any (1 ∷ []) 6 ∷ signal (kill 5) 1 ∷ read aMutex 1 ∷ [])  -- P8
+    ∷ (create aMutex 5 mutexCeiling ∷ waits any (1 ∷ []) 5 ∷ signal (unlock 5) 1 ∷ read aMutex 1 ∷ [])  -- P9
+    ∷ (create anEvent 1 0 ∷ wait any (1 ∷ 1 ∷ []) 7 0 0 1 never 0 ∷ read anEvent 1 ∷ [])  -- P10
+    ∷ (create anEvent 0 0 ∷ wait any (1 ∷ []) 7 0 0 0 40 40 ∷ wait any (1 ∷ []) 7 0 0 0 41 40 ∷ [])  -- P11
+    ∷ (create anEvent 0 0 ∷ wait any (1 ∷ []) 7 0 0 0 never never ∷ [])  -- P12
+    ∷ []
+
+abbrev pub expected : List (List Heard)
+expected =
+    (says 0 1 0 ∷ says 0 2 0 ∷ says 11 0 1 ∷ reports 0 ((1 ∷ 0 ∷ 0 ∷ []) ∷ []) ∷ says 0 0 2 ∷ says 0 1 1 ∷ [])
+    ∷ (says 0 1 0 ∷ says 0 1 0 ∷ says 0 3 3 ∷ [])
+    ∷ (says 0 1 0 ∷ says 3 0 0 ∷ says 0 1 3 ∷ [])
+    ∷ (says 0 1 0 ∷ says 11 0 1 ∷ says 11 0 2 ∷ reports 0 ((1 ∷ 0 ∷ 0 ∷ []) ∷ []) ∷ says 0 0 0 ∷ [])
+    ∷ (says 0 1 0 ∷ says 11 0 1 ∷ says 11 0 2 ∷ reports 0 ((1 ∷ 0 ∷ 0 ∷ []) ∷ (2 ∷ 0 ∷ 0 ∷ []) ∷ []) ∷ says 0 0 1 ∷ [])
+    ∷ (says 0 1 0 ∷ says 11 0 1 ∷ says 11 0 2 ∷ reports 1 ((1 ∷ 0 ∷ 0 ∷ []) ∷ (2 ∷ 0 ∷ 0 ∷ []) ∷ []) ∷ says 0 6 2 ∷ [])
+    ∷ (says 0 1 0 ∷ says 11 0 1 ∷ reports 0 ((1 ∷ 4 ∷ 0 ∷ []) ∷ []) ∷ says 0 6 1 ∷ [])
+    ∷ (says 0 1 0 ∷ says 11 0 1 ∷ reports mutexCeiling ((1 ∷ 0 ∷ 0 ∷ []) ∷ []) ∷ says 0 5 mutexCeiling ∷ [])
+    ∷ (says 0 1 0 ∷ says 0 0 0 ∷ says 0 0 0 ∷ [])
+    ∷ (says 0 1 0 ∷ says 5 0 0 ∷ says 11 0 1 ∷ [])
+    ∷ (says 0 1 0 ∷ says 11 0 1 ∷ [])
+    ∷ []
+
+pub examples-library : map (λ ops. map heard (run libraryStep initial (map calling ops))) examples ≡ expected
+unfolding lowestSignaled allSignaled look attempt acquireEach anyAbandoned dequeue oldest serve tryToServe member concernedBy walkQueue libraryStep firstRefusal records run refusals change least lowestEmpty waitsFull enqueue allOccupied hasRepeat anyOf admits endEach
+examples-library = refl
+
+pub examples-reference : map (λ ops. map heard (run referenceStep initial (map calling ops))) examples ≡ expected
+unfolding lowestSignaled allSignaled look attempt acquireEach anyAbandoned dequeue oldest serve tryToServe member concernedBy searchQueue referenceStep firstRefusal records run refusals change least lowestEmpty waitsFull enqueue allOccupied hasRepeat anyOf admits endEach
+examples-reference = refl
+
+-- FURTHER READINGS, one for each way of going wrong that the readings above leave open
+abbrev pub furtherExamples : List (List Operation)
+furtherExamples =
+    -- lowest ticket first, not lowest place: the third wait stands in the first one's place
+    (create anEvent 0 0 ∷ waits any (1 ∷ []) 7 ∷ waits any (1 ∷ []) 8 ∷ cancel 1 ∷ waits any (1 ∷ []) 9 ∷ signal setEvent 1 ∷ [])
+    -- a wait that can't be served does not stop the walk
+    ∷ (create aSemaphore 0 3 ∷ create anEvent 0 1 ∷ waits all (1 ∷ 2 ∷ []) 7 ∷ waits any (1 ∷ []) 8 ∷ signal (post 1) 1 ∷ read aSemaphore 1 ∷ [])
+    -- an alert is a name, and comes after the list
+    ∷ (create aSemaphore 0 3 ∷ create anEvent 0 0 ∷ wait any (1 ∷ []) 7 0 0 2 never 0 ∷ signal setEvent 2 ∷ read anEvent 2 ∷ [])
+    ∷ (create aSemaphore 1 3 ∷ create anEvent 1 0 ∷ wait any (1 ∷ []) 7 0 0 2 never 0 ∷ read aSemaphore 1 ∷ read anEvent 2 ∷ [])
+    -- 0 is never a handle, nor is the number after the last place
+    ∷ (create aSemaphore 1 3 ∷ read aSemaphore 0 ∷ read aSemaphore (suc objectPlaces) ∷ waits any (0 ∷ []) 7 ∷ close 0 ∷ [])
+    -- a wait for all takes nothing unless it takes all
+    ∷ (create aSemaphore 1 3 ∷ create aSemaphore 0 3 ∷ waits all (1 ∷ 2 ∷ []) 7 ∷ read aSemaphore 1 ∷ signal (post 1) 2 ∷ read aSemaphore 1 ∷ read aSemaphore 2 ∷ [])
+    -- a wait for all ended by its alert answers 0, although an abandoned mutex is listed
+    ∷ (create aMutex 5 1 ∷ create aSemaphore 0 1 ∷ create anEvent 0 0 ∷ wait all (1 ∷ 2 ∷ []) 7 0 0 3 never 0 ∷ signal (kill 5) 1 ∷ signal setEvent 3 ∷ read aMutex 1 ∷ [])
+    -- expire by clock and time, oldest first, and never is never
+    ∷ (create anEvent 0 0 ∷ wait any (1 ∷ []) 7 0 0 0 50 0 ∷ wait any (1 ∷ []) 7 1 0 0 50 0 ∷ wait any (1 ∷ []) 7 0 0 0 51 0 ∷ waits any (1 ∷ []) 7 ∷ expire 0 50 ∷ expire 1 never ∷ expire 2 0 ∷ [])
+    -- refusals of create, post, unlock, kill, close, cancel and the waits
+    ∷ (create aSemaphore 2 1 ∷ create aMutex 0 1 ∷ create aMutex 1 0 ∷ create aMutex 5 2 ∷ signal (unlock 0) 1 ∷ signal (unlock 6) 1 ∷ signal (kill 6) 1 ∷ signal setEvent 1 ∷ signal (post 0) 1
+    ∷ waits any (1 ∷ []) 6 ∷ close 1 ∷ cancel 2 ∷ cancel 0 ∷ wait any [] 6 0 0 0 never 0 ∷ wait any (1 ∷ []) 0 0 0 0 never 0 ∷ wait any (1 ∷ []) 6 2 0 0 never 0 ∷ wait any (1 ∷ []) 6 0 1 0 never 0
+    ∷ wait any (1 ∷ []) 6 0 0 1 never 0 ∷ waits all (1 ∷ 1 ∷ []) 6 ∷ cancel 1 ∷ close 1 ∷ read aMutex 1 ∷ [])
+    ∷ []
+
+abbrev pub furtherExpected : List (List Heard)
+furtherExpected =
+    (says 0 1 0 ∷ says 11 0 1 ∷ says 11 0 2 ∷ says 6 0 0 ∷ says 11 0 3 ∷ reports 0 ((2 ∷ 0 ∷ 0 ∷ []) ∷ []) ∷ [])
+    ∷ (says 0 1 0 ∷ says 0 2 0 ∷ says 11 0 1 ∷ says 11 0 2 ∷ reports 0 ((2 ∷ 0 ∷ 0 ∷ []) ∷ []) ∷ says 0 0 3 ∷ [])
+    ∷ (says 0 1 0 ∷ says 0 2 0 ∷ says 11 0 1 ∷ reports 0 ((1 ∷ 0 ∷ 1 ∷ []) ∷ []) ∷ says 0 0 0 ∷ [])
+    ∷ (says 0 1 0 ∷ says 0 2 0 ∷ says 0 0 0 ∷ says 0 0 3 ∷ says 0 1 0 ∷ [])
+    ∷ (says 0 1 0 ∷ says 1 0 0 ∷ says 1 0 0 ∷ says 1 0 0 ∷ says 1 0 0 ∷ [])
+    ∷ (says 0 1 0 ∷ says 0 2 0 ∷ says 11 0 1 ∷ says 0 1 3 ∷ reports 0 ((1 ∷ 0 ∷ 0 ∷ []) ∷ []) ∷ says 0 0 3 ∷ says 0 0 3 ∷ [])
+    ∷ (says 0 1 0 ∷ says 0 2 0 ∷ says 0 3 0 ∷ says 11 0 1 ∷ says 0 0 0 ∷ reports 0 ((1 ∷ 0 ∷ 2 ∷ []) ∷ []) ∷ says 4 0 0 ∷ [])
+    ∷ (says 0 1 0 ∷ says 11 0 1 ∷ says 11 0 2 ∷ says 11 0 3 ∷ says 11 0 4 ∷ reports 0 ((1 ∷ 5 ∷ 0 ∷ []) ∷ []) ∷ reports 0 ((2 ∷ 5 ∷ 0 ∷ []) ∷ []) ∷ says 1 0 0 ∷ [])
+    ∷ (says 1 0 0 ∷ says 1 0 0 ∷ says 1 0 0 ∷ says 0 1 0 ∷ says 1 0 0 ∷ says 2 0 0 ∷ says 2 0 0 ∷ says 1 0 0 ∷ says 1 0 0
+    ∷ says 11 0 1 ∷ says 10 0 0 ∷ says 1 0 0 ∷ says 1 0 0 ∷ says 1 0 0 ∷ says 1 0 0 ∷ says 1 0 0 ∷ says 1 0 0
+    ∷ says 1 0 0 ∷ says 1 0 0 ∷ says 6 0 0 ∷ says 0 0 0 ∷ says 1 0 0 ∷ [])
+    ∷ []
+
+pub further-library : map (λ ops. map heard (run libraryStep initial (map calling ops))) furtherExamples ≡ furtherExpected
+unfolding lowestSignaled allSignaled look attempt acquireEach anyAbandoned dequeue oldest serve tryToServe member concernedBy walkQueue libraryStep firstRefusal records run refusals change least lowestEmpty waitsFull enqueue allOccupied hasRepeat anyOf admits endEach
+further-library = refl
+
+pub further-reference : map (λ ops. map heard (run referenceStep initial (map calling ops))) furtherExamples ≡ furtherExpected
+unfolding lowestSignaled allSignaled look attempt acquireEach anyAbandoned dequeue oldest serve tryToServe member concernedBy searchQueue referenceStep firstRefusal records run refusals change least lowestEmpty waitsFull enqueue allOccupied hasRepeat anyOf admits endEach
+further-reference = refl
+
+-- P1's whole text
+abbrev lastState : List (Outcome State) → State
+lastState [] = initial
+lastState (o ∷ []) = o .held
+lastState (o ∷ p ∷ os) = lastState (p ∷ os)
+
+pub example-snapshot : snapshotText (lastState (run libraryStep initial (map calling setUp)))
+    ≡ ascii "next=2\nobjects=2\nhandle=1\nkind=sem\ncount=1\nmax=2\nhandle=2\nkind=event\nsignaled=0\nmanual=1\nwaits=1\nwait=1\nmode=all\nowner=7\nclock=mono\ntimeout=18446744073709551615\nalert=0\nn=2\nobj=1\nobj=2\n"
+unfolding lowestSignaled allSignaled look attempt acquireEach anyAbandoned dequeue oldest serve tryToServe member concernedBy walkQueue libraryStep firstRefusal records run refusals change least lowestEmpty waitsFull enqueue allOccupied hasRepeat anyOf admits snapshotText objectText objectsText objectCount waitText queueFrom joined line digitsUpTo
+example-snapshot = refl
+
+-- One damaged cell of newly made tables, and one cell too few or too many: each is corrupt. Newly made tables are not.
+pub examples-corrupt : map validTables (initialTables ∷ set initialTables 0 0 ∷ set initialTables 2 1 ∷ set initialTables (tableLength - 1) 1 ∷ take (tableLength - 1) initialTables ∷ (initialTables ++ (0 ∷ [])) ∷ [])
+    ≡ true ∷ false ∷ false ∷ false ∷ false ∷ false ∷ []
+unfolding validTables sameCells view encode tabulate joined objectCells waitCells allOf oldest distinctTickets
+examples-corrupt = refl
