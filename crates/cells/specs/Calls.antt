@@ -10,7 +10,7 @@ use Rattle.model.specs.Waits.{Mode, any, all}
 use Rattle.model.specs.Calls.{Operation, create, close, resetEvent, read, signal, wait, expire, cancel, snapshot, Kind, aSemaphore, aMutex, anEvent, Signal, post, unlock, kill, setEvent, pulseEvent, Lent, Call, badNew, timeUp}
 use Rattle.model.specs.Layout.{headerSize, tableLength, modeCell}
 use Rattle.cells.specs.Fold.{foldBelow, someBelow, searchFrom}
-use Rattle.cells.specs.Objects.{Fields, fields, noFields, fieldsAt, putFields, named, store, postedFields, unlockedFields, killedFields, switchedFields, clearedFields}
+use Rattle.cells.specs.Objects.{Fields, fields, noFields, fieldsAt, putFields, named, store, Changed, postFields, unlockFields, killFields, switchFields}
 use Rattle.cells.specs.Waits.{nextTicket, waitCell, ticketAt, queuedAt, namesAt, clearWait, has}
 use Rattle.cells.specs.Attempt.{Tried, tryList}
 use Rattle.cells.specs.Walk.{Walked, walked, wakeCells, endCells}
@@ -66,25 +66,36 @@ unfoldable pub readCells : Kind → ℕ → List ℕ → Lent → Result
 readCells k h t l = readOn k (named t h) t l
 
 abbrev pub resetOn : ℕ → Fields → List ℕ → Lent → Result
-resetOn h x t l = cond (eqb (x .kind) 3) (answered 0 (x .count) 0 (store t h (switchedFields 0 x)) l) (refusedWith 1 t l)
+resetOn h x t l = let r = switchFields 0 x in cond (eqb (r .answer) 0) (answered 0 (x .count) 0 (store t h (r .next)) l) (refusedWith (r .answer) t l)
 
 unfoldable pub resetCells : ℕ → List ℕ → Lent → Result
 resetCells h t l = resetOn h (named t h) t l
 
--- THE CALLS THAT WAKE: what the call does at the object that h names
-abbrev pub clearedAfter : ℕ → Walked → Walked
-clearedAfter h v = walked (v .count) (store (v .tables) h (clearedFields (named (v .tables) h))) (v .wake)
+-- THE CALLS THAT WAKE: what they make of the object that h names, the number handed back, the event cleared at last
+abbrev pub signalFields : Signal → Fields → Changed
+signalFields (post add) x = postFields add x
+signalFields (unlock asking) x = unlockFields asking x
+signalFields (kill asking) x = killFields asking x
+signalFields setEvent x = switchFields 1 x
+signalFields pulseEvent x = switchFields 1 x
 
-abbrev pub heldOn : ℕ → Fields → List ℕ → Lent → Result → Result
-heldOn asking x t l r = cond (eqb (x .kind) 2) (cond (eqb asking 0) (refusedWith 1 t l) (cond (eqb (x .owner) asking) r (refusedWith 2 t l))) (refusedWith 1 t l)
+abbrev pub previousOf : Signal → Fields → ℕ
+previousOf (post add) x = x .count
+previousOf (unlock asking) x = x .count
+previousOf (kill asking) x = 0
+previousOf setEvent x = x .count
+previousOf pulseEvent x = x .count
+
+abbrev pub clearedAfter : Signal → ℕ → Walked → Walked
+clearedAfter (post add) h v = v
+clearedAfter (unlock asking) h v = v
+clearedAfter (kill asking) h v = v
+clearedAfter setEvent h v = v
+clearedAfter pulseEvent h v = walked (v .count) (store (v .tables) h ((switchFields 0 (named (v .tables) h)) .next)) (v .wake)
 
 abbrev pub signalOn : Signal → ℕ → Fields → List ℕ → Lent → Result
-signalOn (post add) h x t l = cond (eqb (x .kind) 1) (cond (ltb (x .attribute) (x .count + add)) (refusedWith 3 t l)
-    (woke (x .count) (wakeCells (store t h (postedFields add x)) h (l .wake)) l)) (refusedWith 1 t l)
-signalOn (unlock asking) h x t l = heldOn asking x t l (woke (x .count) (wakeCells (store t h (unlockedFields x)) h (l .wake)) l)
-signalOn (kill asking) h x t l = heldOn asking x t l (woke 0 (wakeCells (store t h (killedFields x)) h (l .wake)) l)
-signalOn setEvent h x t l = cond (eqb (x .kind) 3) (woke (x .count) (wakeCells (store t h (switchedFields 1 x)) h (l .wake)) l) (refusedWith 1 t l)
-signalOn pulseEvent h x t l = cond (eqb (x .kind) 3) (woke (x .count) (clearedAfter h (wakeCells (store t h (switchedFields 1 x)) h (l .wake))) l) (refusedWith 1 t l)
+signalOn how h x t l = let r = signalFields how x in
+    cond (eqb (r .answer) 0) (woke (previousOf how x) (clearedAfter how h (wakeCells (store t h (r .next)) h (l .wake))) l) (refusedWith (r .answer) t l)
 
 -- a short wake list goes first
 unfoldable pub signalCells : Signal → ℕ → List ℕ → Lent → Result

@@ -51,19 +51,27 @@ acquiredFields asking x = cond (eqb (x .kind) 1) (fields 1 (x .count - 1) (x .ow
 unfoldable pub abandonedFields : Fields → Bool
 abandonedFields x = eqb (x .kind) 2 && ltb 0 (x .attribute)
 
--- THE CHANGES of one object, each on its own kind: post, unlock, kill, set or clear
-unfoldable pub postedFields : ℕ → Fields → Fields
-postedFields add x = fields (x .kind) (x .count + add) (x .owner) (x .attribute)
+-- THE CHANGES of one object: the answer, and the next state, which is the object as it was where the answer is not 0
+pub record Changed : Type 0 where
+  pub answer : ℕ
+  pub next : Fields
 
-unfoldable pub unlockedFields : Fields → Fields
-unlockedFields x = fields (x .kind) (x .count - 1) (cond (eqb (x .count) 1) 0 (x .owner)) (x .attribute)
+abbrev pub changed : ℕ → Fields → Changed
+changed a x = record { answer = a; next = x }
 
-unfoldable pub killedFields : Fields → Fields
-killedFields x = fields (x .kind) 0 0 1
+unfoldable pub postFields : ℕ → Fields → Changed
+postFields add x = cond (eqb (x .kind) 1) (cond (ltb (x .attribute) (x .count + add)) (changed 3 x) (changed 0 (fields 1 (x .count + add) (x .owner) (x .attribute)))) (changed 1 x)
 
-unfoldable pub switchedFields : ℕ → Fields → Fields
-switchedFields to x = fields (x .kind) to (x .owner) (x .attribute)
+-- unlock and kill ask first whether `asking` holds the mutex
+abbrev pub ifHeld : ℕ → Fields → Fields → Changed
+ifHeld asking x next = cond (eqb (x .kind) 2) (cond (eqb asking 0) (changed 1 x) (cond (eqb (x .owner) asking) (changed 0 next) (changed 2 x))) (changed 1 x)
 
--- an event is cleared, anything else stays
-unfoldable pub clearedFields : Fields → Fields
-clearedFields x = cond (eqb (x .kind) 3) (switchedFields 0 x) x
+unfoldable pub unlockFields : ℕ → Fields → Changed
+unlockFields asking x = ifHeld asking x (fields 2 (x .count - 1) (cond (eqb (x .count) 1) 0 (x .owner)) (x .attribute))
+
+unfoldable pub killFields : ℕ → Fields → Changed
+killFields asking x = ifHeld asking x (fields 2 0 0 1)
+
+-- an event is set (1) or cleared (0)
+unfoldable pub switchFields : ℕ → Fields → Changed
+switchFields to x = cond (eqb (x .kind) 3) (changed 0 (fields 3 to (x .owner) (x .attribute))) (changed 1 x)

@@ -23,9 +23,9 @@ use Rattle.model.proofs.Logic.{byBool}
 use Rattle.model.proofs.Rules.{accepted, clear, due, signal-keeps}
 use Rattle.model.proofs.Valid.{Valid, none-waiting, waiting-none, walk-valid, keeps-valid}
 use Rattle.model.proofs.Cells.{at-in, in-at, byPlace, Holds, holds}
-use Rattle.cells.specs.Calls.{Result, answered, refusedWith, woke, emptyObject, createCells, newFields, busyAt, closeCells, readOn, readCells, resetOn, resetCells, clearedAfter, heldOn, signalOn, signalCells, expireCells, cancelCells, snapshotCells}
+use Rattle.cells.specs.Calls.{Result, answered, refusedWith, woke, emptyObject, createCells, newFields, busyAt, closeCells, readOn, readCells, resetOn, resetCells, clearedAfter, signalOn, signalCells, expireCells, cancelCells, snapshotCells}
 use Rattle.cells.specs.Fold.{searchFrom}
-use Rattle.cells.specs.Objects.{fieldsAt, putFields, named, store, postedFields, unlockedFields, killedFields, switchedFields, clearedFields}
+use Rattle.cells.specs.Objects.{fieldsAt, putFields, named, store, Changed, changed, postFields, ifHeld, unlockFields, killFields, switchFields}
 use Rattle.cells.specs.Walk.{wakeCells, endCells}
 use Rattle.cells.specs.Waits.{ticketAt, clearWait}
 use Rattle.refine.proofs.Snapshot.{snapshot-of}
@@ -140,10 +140,10 @@ module _ (s : State) (g : Valid s) (h : ℕ) (l : Lent) where
       refused e = unfold refusals least in wrong-kind (resetEvent h) e refl
 
       go : (x : Object) → objectAt (s .objects) h ≡ x → resetOn h (fieldsOf x) (encode s) l ≡ means s (resetEvent h) l
-      go empty e = refused (rw e)
-      go (semaphore c m) e = refused (rw e)
-      go (mutex o c a) e = refused (rw e)
-      go (event v m) e = unfold refusals least change switchedFields in (
+      go empty e = unfold switchFields in refused (rw e)
+      go (semaphore c m) e = unfold switchFields in refused (rw e)
+      go (mutex o c a) e = unfold switchFields in refused (rw e)
+      go (event v m) e = unfold refusals least change switchFields in (
           rw (store-is s (g .places) h (event false m)) (plain (putObject s h (event false m)) l 0 (bit v) 0
           ∙ ap (leaves l) (let r : answers 0 (bit v) 0 (putObject s h (event false m)) ≡ change (resetEvent h) s = rw e in r) ∙ no-refusal (resetEvent h) (ap (λ (y : Object). (resetRule y) .refusals) e) refl))
 
@@ -152,19 +152,27 @@ long-enough : (wake : List ℕ) → ltb (length wake) wakeLength ≡ false → w
 long-enough wake e = ltb-false (length wake) wakeLength e
 
 module _ (s : State) (g : Valid s) (h : ℕ) (l : Lent) (long : ltb (length (l .wake)) wakeLength ≡ false) where
-  -- object h is y from now on, and the waits that name it are tried
-  woke-is : (r : Rule) (y : Object) → r .answer ≡ 0 → r .second ≡ 0 → r .next ≡ y → Valid (putObject s h y)
-      → woke (r .first) (wakeCells (store (encode s) h (fieldsOf y)) h (l .wake)) l ≡ leaves l (wakes r h 0 s)
-  woke-is r y a b n v = rw (store-is s (g .places) h y, wake-is (putObject s h y) h (l .wake) v (long-enough (l .wake) long), a, b, n)
+  -- object h is y from now on, and the waits that name it are tried; a pulse then clears its event
+  woke-is : (how : Signal) (r : Rule) (y : Object) → r .answer ≡ 0 → r .second ≡ 0 → r .next ≡ y → Valid (putObject s h y)
+      → woke (r .first) (clearedAfter how h (wakeCells (store (encode s) h (fieldsOf y)) h (l .wake))) l ≡ leaves l (wakes r h (clearsAfter how h) s)
+  woke-is how r y a b n v = rw (store-is s (g .places) h y, wake-is (putObject s h y) h (l .wake) v (long-enough (l .wake) long), a, b, n) (go how)
+    where
+      s′ : State
+      s′ = (wakeByWalk (h ∷ []) (putObject s h y)) .state
 
-  -- the same, and the event is cleared
-  cleared-is : (r : Rule) (y : Object) → r .answer ≡ 0 → r .second ≡ 0 → r .next ≡ y → Valid (putObject s h y)
-      → woke (r .first) (clearedAfter h (wakeCells (store (encode s) h (fieldsOf y)) h (l .wake))) l ≡ leaves l (wakes r h h s)
-  cleared-is r y a b n v =
-      let s′ : State = (wakeByWalk (h ∷ []) (putObject s h y)) .state in
-      let p : length (s′ .objects) ≡ objectPlaces = (walk-valid (length (s .waits)) (h ∷ []) 0 (putObject s h y) v) .places in
-      let c : store (encode s′) h (clearedFields (named (encode s′) h)) ≡ encode (clear h s′) = rw (named-is s′ p h, cleared-fields (objectAt (s′ .objects) h)) (store-is s′ p h (cleared (objectAt (s′ .objects) h))) in
-      rw (store-is s (g .places) h y, wake-is (putObject s h y) h (l .wake) v (long-enough (l .wake) long), c, a, b, n)
+      full : length (s′ .objects) ≡ objectPlaces
+      full = (walk-valid (length (s .waits)) (h ∷ []) 0 (putObject s h y) v) .places
+
+      cleared-store : store (encode s′) h ((switchFields 0 (named (encode s′) h)) .next) ≡ encode (clear h s′)
+      cleared-store = rw (named-is s′ full h, cleared-fields (objectAt (s′ .objects) h)) (store-is s′ full h (cleared (objectAt (s′ .objects) h)))
+
+      go : (how : Signal) → woke (r .first) (clearedAfter how h (leaving [] (l .wake) (wakeByWalk (h ∷ []) (putObject s h y)))) l
+          ≡ leaves l (record { answer = 0; first = r .first; second = 0; reports = []; text = []; state = putObject s h y; changed = h ∷ []; clears = clearsAfter how h })
+      go (post add) = refl
+      go (unlock asking) = refl
+      go (kill asking) = refl
+      go setEvent = refl
+      go pulseEvent = rw cleared-store
 
   signal-refused : (how : Signal) (n : ℕ) → firstRefusal ((signalRule how (objectAt (s .objects) h)) .refusals) ≡ some n → refusedWith n (encode s) l ≡ means s (signal how h) l
   unfolding firstRefusal refusals least
@@ -174,63 +182,55 @@ module _ (s : State) (g : Valid s) (h : ℕ) (l : Lent) (long : ltb (length (l .
   unfolding firstRefusal refusals least change
   signal-accepted how e = accepted-is s (signal how h) l (rw (long, any-length (l .buffer), e))
 
-  -- a rule that is not refused, by its next state
-  signal-woke : (how : Signal) (x : ℕ) (z : Object) → clearsAfter how h ≡ 0 → signalRule how (objectAt (s .objects) h) ≡ record { refusals = (signalRule how (objectAt (s .objects) h)) .refusals; answer = 0; first = x; second = 0; next = z }
+  -- a rule that is not refused, by its number and next state
+  signal-woke : (how : Signal) (x : ℕ) (z : Object) → signalRule how (objectAt (s .objects) h) ≡ record { refusals = (signalRule how (objectAt (s .objects) h)) .refusals; answer = 0; first = x; second = 0; next = z }
       → firstRefusal ((signalRule how (objectAt (s .objects) h)) .refusals) ≡ none
-      → woke x (wakeCells (store (encode s) h (fieldsOf z)) h (l .wake)) l ≡ means s (signal how h) l
-  signal-woke how x z c e n =
+      → woke x (clearedAfter how h (wakeCells (store (encode s) h (fieldsOf z)) h (l .wake))) l ≡ means s (signal how h) l
+  signal-woke how x z e n =
       let r : Rule = signalRule how (objectAt (s .objects) h) in
       let v : Valid (putObject s h z) = subst (λ (q : Object). Valid (putObject s h q)) (ap (λ (q : Rule). q .next) e) (keeps-valid s h (r .next) g (signal-keeps how (objectAt (s .objects) h) (accepted (r .refusals) n))) in
-      ap (λ (q : ℕ). woke q (wakeCells (store (encode s) h (fieldsOf z)) h (l .wake)) l) (sym (ap (λ (q : Rule). q .first) e))
-      ∙ woke-is r z (ap (λ (q : Rule). q .answer) e) (ap (λ (q : Rule). q .second) e) (ap (λ (q : Rule). q .next) e) v
-      ∙ ap (λ (k : ℕ). leaves l (wakes r h k s)) (sym c) ∙ signal-accepted how n
+      ap (λ (q : ℕ). woke q (clearedAfter how h (wakeCells (store (encode s) h (fieldsOf z)) h (l .wake))) l) (sym (ap (λ (q : Rule). q .first) e))
+      ∙ woke-is how r z (ap (λ (q : Rule). q .answer) e) (ap (λ (q : Rule). q .second) e) (ap (λ (q : Rule). q .next) e) v ∙ signal-accepted how n
 
-  pulse-woke : (v m : Bool) → objectAt (s .objects) h ≡ event v m
-      → woke (bit v) (clearedAfter h (wakeCells (store (encode s) h (fieldsOf (event true m))) h (l .wake))) l ≡ means s (signal pulseEvent h) l
-  unfolding firstRefusal
-  pulse-woke v m e =
-      let x : Object = objectAt (s .objects) h in let r : Rule = signalRule pulseEvent x in
-      let q : r ≡ rule [] done (bit v) 0 (event true m) = rw e in
-      let n : firstRefusal (r .refusals) ≡ none = rw e in
-      let w : Valid (putObject s h (event true m)) = subst (λ (y : Object). Valid (putObject s h y)) (ap (λ (y : Rule). y .next) q) (keeps-valid s h (r .next) g (signal-keeps pulseEvent x (accepted (r .refusals) n))) in
-      ap (λ (k : ℕ). woke k (clearedAfter h (wakeCells (store (encode s) h (fieldsOf (event true m))) h (l .wake))) l) (sym (ap (λ (y : Rule). y .first) q))
-      ∙ cleared-is r (event true m) (ap (λ (y : Rule). y .answer) q) (ap (λ (y : Rule). y .second) q) (ap (λ (y : Rule). y .next) q) w ∙ signal-accepted pulseEvent n
+  -- what the cells of the object come to, and what the rule says
+  abbrev settles : Signal → ℕ → Changed → Result
+  settles how x r = cond (eqb (r .answer) 0) (woke x (clearedAfter how h (wakeCells (store (encode s) h (r .next)) h (l .wake))) l) (refusedWith (r .answer) (encode s) l)
 
   -- a mutex held by o, asked by `asking`
-  held-is : (how : Signal) (asking o c : ℕ) (a : Bool) (x : ℕ) (z : Object) → clearsAfter how h ≡ 0 → signalRule how (objectAt (s .objects) h) ≡ rule (heldBy asking o) done x 0 z
-      → heldOn asking (fieldsOf (mutex o c a)) (encode s) l (woke x (wakeCells (store (encode s) h (fieldsOf z)) h (l .wake)) l) ≡ means s (signal how h) l
+  held-is : (how : Signal) (asking o c : ℕ) (a : Bool) (x : ℕ) (z : Object) → signalRule how (objectAt (s .objects) h) ≡ rule (heldBy asking o) done x 0 z
+      → settles how x (ifHeld asking (fieldsOf (mutex o c a)) (fieldsOf z)) ≡ means s (signal how h) l
   unfolding firstRefusal
-  held-is how asking o c a x z k e =
+  held-is how asking o c a x z e =
       let rs : (signalRule how (objectAt (s .objects) h)) .refusals ≡ heldBy asking o = ap (λ (r : Rule). r .refusals) e in
       byBool (eqb asking 0) (λ y. rw y (signal-refused how 1 (rw (rs, y))))
       (λ n. byBool (eqb o asking)
-      (λ y. rw (n, y) (signal-woke how x z k (rw e) (rw (rs, n, y))))
+      (λ y. rw (n, y) (signal-woke how x z (rw e) (rw (rs, n, y))))
       (λ f. rw (n, f) (signal-refused how 2 (rw (rs, n, f)))))
 
   signal-on : (how : Signal) (x : Object) → objectAt (s .objects) h ≡ x → signalOn how h (fieldsOf x) (encode s) l ≡ means s (signal how h) l
-  unfolding firstRefusal postedFields unlockedFields killedFields switchedFields
+  unfolding firstRefusal postFields unlockFields killFields switchFields
   signal-on (post add) empty e = signal-refused (post add) 1 (rw e)
   signal-on (post add) (semaphore c m) e = byBool (ltb m (c + add))
       (λ y. rw y (signal-refused (post add) 3 (rw (e, y))))
-      (λ n. rw n (signal-woke (post add) c (semaphore (c + add) m) refl (rw e) (rw (e, n))))
+      (λ n. rw n (signal-woke (post add) c (semaphore (c + add) m) (rw e) (rw (e, n))))
   signal-on (post add) (mutex o c a) e = signal-refused (post add) 1 (rw e)
   signal-on (post add) (event v m) e = signal-refused (post add) 1 (rw e)
   signal-on (unlock asking) empty e = signal-refused (unlock asking) 1 (rw e)
   signal-on (unlock asking) (semaphore c m) e = signal-refused (unlock asking) 1 (rw e)
-  signal-on (unlock asking) (mutex o c a) e = let q : c - 1 ≡ pred c = omega arith in rw q (held-is (unlock asking) asking o c a c (mutex (cond (eqb c 1) 0 o) (pred c) a) refl (rw e))
+  signal-on (unlock asking) (mutex o c a) e = let q : c - 1 ≡ pred c = omega arith in rw q (held-is (unlock asking) asking o c a c (mutex (cond (eqb c 1) 0 o) (pred c) a) (rw e))
   signal-on (unlock asking) (event v m) e = signal-refused (unlock asking) 1 (rw e)
   signal-on (kill asking) empty e = signal-refused (kill asking) 1 (rw e)
   signal-on (kill asking) (semaphore c m) e = signal-refused (kill asking) 1 (rw e)
-  signal-on (kill asking) (mutex o c a) e = held-is (kill asking) asking o c a 0 (mutex 0 0 true) refl (rw e)
+  signal-on (kill asking) (mutex o c a) e = held-is (kill asking) asking o c a 0 (mutex 0 0 true) (rw e)
   signal-on (kill asking) (event v m) e = signal-refused (kill asking) 1 (rw e)
   signal-on setEvent empty e = signal-refused setEvent 1 (rw e)
   signal-on setEvent (semaphore c m) e = signal-refused setEvent 1 (rw e)
   signal-on setEvent (mutex o c a) e = signal-refused setEvent 1 (rw e)
-  signal-on setEvent (event v m) e = signal-woke setEvent (bit v) (event true m) refl (rw e) (rw e)
+  signal-on setEvent (event v m) e = signal-woke setEvent (bit v) (event true m) (rw e) (rw e)
   signal-on pulseEvent empty e = signal-refused pulseEvent 1 (rw e)
   signal-on pulseEvent (semaphore c m) e = signal-refused pulseEvent 1 (rw e)
   signal-on pulseEvent (mutex o c a) e = signal-refused pulseEvent 1 (rw e)
-  signal-on pulseEvent (event v m) e = pulse-woke v m e
+  signal-on pulseEvent (event v m) e = signal-woke pulseEvent (bit v) (event true m) (rw e) (rw e)
 
 pub signal-is : (s : State) → Valid s → (how : Signal) (h : ℕ) (l : Lent) → signalCells how h (encode s) l ≡ means s (signal how h) l
 unfolding signalCells firstRefusal least

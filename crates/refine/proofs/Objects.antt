@@ -18,7 +18,7 @@ use Rattle.model.proofs.Logic.{byBool, clash, _implies_, and-split, or-left, or
 use Rattle.model.proofs.Acquiring.{at-put-other}
 use Rattle.cells.specs.Attempt.{acquireAt, signaledAt, abandonedAt, acquireFirst, abandonedFirst}
 use Rattle.model.proofs.Valid.{length-putAt}
-use Rattle.cells.specs.Objects.{objectCell, Fields, fields, noFields, fieldsAt, putFields, named, store, signaledFields, acquiredFields, abandonedFields, switchedFields, clearedFields}
+use Rattle.cells.specs.Objects.{objectCell, Fields, fields, noFields, fieldsAt, putFields, named, store, signaledFields, acquiredFields, abandonedFields, switchFields}
 use Rattle.model.proofs.Cells.{read-object, write-object}
 use Rattle.cells.specs.Fold.{foldBelow}
 use Rattle.cells.specs.Validity.{occupiedAt, eventAt}
@@ -112,8 +112,8 @@ acquired-fields o (mutex w c a) e = rw (e, add-one)
 acquired-fields o (event s true) e = refl
 acquired-fields o (event s false) e = refl
 
-pub cleared-fields : (x : Object) → clearedFields (fieldsOf x) ≡ fieldsOf (cleared x)
-unfolding clearedFields switchedFields
+pub cleared-fields : (x : Object) → (switchFields 0 (fieldsOf x)) .next ≡ fieldsOf (cleared x)
+unfolding switchFields
 cleared-fields empty = refl
 cleared-fields (semaphore c m) = refl
 cleared-fields (mutex o c a) = refl
