@@ -95,7 +95,7 @@ furtherExamples =
     -- a wait for all ended by its alert answers 0, although an abandoned mutex is listed
     ∷ (create aMutex 5 1 ∷ create aSemaphore 0 1 ∷ create anEvent 0 0 ∷ wait all (1 ∷ 2 ∷ []) 7 0 0 3 never 0 ∷ signal (kill 5) 1 ∷ signal setEvent 3 ∷ read aMutex 1 ∷ [])
     -- expire by clock and time, oldest first, and never is never
-    ∷ (create anEvent 0 0 ∷ wait any (1 ∷ []) 7 0 0 0 50 0 ∷ wait any (1 ∷ []) 7 1 0 0 50 0 ∷ wait any (1 ∷ []) 7 0 0 0 51 0 ∷ waits any (1 ∷ []) 7 ∷ expire 0 50 ∷ expire 1 never ∷ expire 2 0 ∷ [])
+    ∷ (create anEvent 0 0 ∷ wait any (1 ∷ []) 7 0 0 0 50 0 ∷ wait any (1 ∷ []) 7 1 0 0 50 0 ∷ wait any (1 ∷ []) 7 0 0 0 51 0 ∷ waits any (1 ∷ []) 7 ∷ expire 0 50 ∷ expire 1 never ∷ expire 2 0 ∷ expire 0 never ∷ cancel 4 ∷ [])
     -- refusals of create, post, unlock, kill, close, cancel and the waits
     ∷ (create aSemaphore 2 1 ∷ create aMutex 0 1 ∷ create aMutex 1 0 ∷ create aMutex 5 2 ∷ signal (unlock 0) 1 ∷ signal (unlock 6) 1 ∷ signal (kill 6) 1 ∷ signal setEvent 1 ∷ signal (post 0) 1
     ∷ waits any (1 ∷ []) 6 ∷ close 1 ∷ cancel 2 ∷ cancel 0 ∷ wait any [] 6 0 0 0 never 0 ∷ wait any (1 ∷ []) 0 0 0 0 never 0 ∷ wait any (1 ∷ []) 6 2 0 0 never 0 ∷ wait any (1 ∷ []) 6 0 1 0 never 0
@@ -111,7 +111,7 @@ furtherExpected =
     ∷ (says 0 1 0 ∷ says 1 0 0 ∷ says 1 0 0 ∷ says 1 0 0 ∷ says 1 0 0 ∷ [])
     ∷ (says 0 1 0 ∷ says 0 2 0 ∷ says 11 0 1 ∷ says 0 1 3 ∷ reports 0 ((1 ∷ 0 ∷ 0 ∷ []) ∷ []) ∷ says 0 0 3 ∷ says 0 0 3 ∷ [])
     ∷ (says 0 1 0 ∷ says 0 2 0 ∷ says 0 3 0 ∷ says 11 0 1 ∷ says 0 0 0 ∷ reports 0 ((1 ∷ 0 ∷ 2 ∷ []) ∷ []) ∷ says 4 0 0 ∷ [])
-    ∷ (says 0 1 0 ∷ says 11 0 1 ∷ says 11 0 2 ∷ says 11 0 3 ∷ says 11 0 4 ∷ reports 0 ((1 ∷ 5 ∷ 0 ∷ []) ∷ []) ∷ reports 0 ((2 ∷ 5 ∷ 0 ∷ []) ∷ []) ∷ says 1 0 0 ∷ [])
+    ∷ (says 0 1 0 ∷ says 11 0 1 ∷ says 11 0 2 ∷ says 11 0 3 ∷ says 11 0 4 ∷ reports 0 ((1 ∷ 5 ∷ 0 ∷ []) ∷ []) ∷ reports 0 ((2 ∷ 5 ∷ 0 ∷ []) ∷ []) ∷ says 1 0 0 ∷ reports 0 ((3 ∷ 5 ∷ 0 ∷ []) ∷ []) ∷ says 6 0 0 ∷ [])
     ∷ (says 1 0 0 ∷ says 1 0 0 ∷ says 1 0 0 ∷ says 0 1 0 ∷ says 1 0 0 ∷ says 2 0 0 ∷ says 2 0 0 ∷ says 1 0 0 ∷ says 1 0 0
     ∷ says 11 0 1 ∷ says 10 0 0 ∷ says 1 0 0 ∷ says 1 0 0 ∷ says 1 0 0 ∷ says 1 0 0 ∷ says 1 0 0 ∷ says 1 0 0
     ∷ says 1 0 0 ∷ says 1 0 0 ∷ says 6 0 0 ∷ says 0 0 0 ∷ says 1 0 0 ∷ [])
