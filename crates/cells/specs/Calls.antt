@@ -105,8 +105,12 @@ unfoldable pub expireCells : ℕ → ℕ → List ℕ → Lent → Result
 expireCells clock time t l = cond (ltb (length (l .wake)) wakeLength) (refusedWith 12 t l)
     (cond (ltb 1 clock) (refusedWith 1 t l) (woke 0 (endCells waitPlaces clock time (walked 0 t (l .wake))) l))
 
+-- the place of the wait with this ticket; ticket 0 is at the empty places
+unfoldable pub ticketPlace : List ℕ → ℕ → ℕ
+ticketPlace t ticket = searchFrom (λ p. eqb (ticketAt t p) ticket) 0 waitPlaces
+
 unfoldable pub cancelCells : ℕ → List ℕ → Lent → Result
-cancelCells ticket t l = let p = searchFrom (λ p. eqb (ticketAt t p) ticket) 0 waitPlaces in
+cancelCells ticket t l = let p = ticketPlace t ticket in
     cond (eqb ticket 0) (refusedWith 1 t l) (cond (ltb p waitPlaces) (answered 6 0 0 (clearWait t p) l) (refusedWith 1 t l))
 
 -- A WAIT for any (mode 0) or for all (mode 1) of a lent list
@@ -123,8 +127,8 @@ putHeader t p ticket mode asking clock timeout n alert =
 unfoldable pub putList : List ℕ → ℕ → List ℕ → List ℕ
 putList t p hs = foldBelow (λ u k. set u (waitCell p + headerSize + k) (getD hs k 0)) t (length hs)
 
-unfoldable pub emptyWait : List ℕ → ℕ
-emptyWait t = searchFrom (λ p. eqb (ticketAt t p) 0) 0 waitPlaces
+abbrev pub emptyWait : List ℕ → ℕ
+emptyWait t = ticketPlace t 0
 
 -- queued under the next ticket, which rises by one
 unfoldable pub queueCells : List ℕ → ℕ → ℕ → List ℕ → ℕ → ℕ → ℕ → ℕ → List ℕ
@@ -165,6 +169,8 @@ unfoldable pub callCells : Call → List ℕ → Result
 callCells c t = cond (validCells t) (onCells (c .operation) t (c .lent)) (refusedWith 9 t (c .lent))
 
 -- MAKING looks at the length alone
+unfoldable pub madeCells : List ℕ → List ℕ
+madeCells t = set (foldBelow (λ u i. set u i 0) t tableLength) 0 1
+
 unfoldable pub makeCells : List ℕ → Result
-makeCells t = cond (eqb (length t) tableLength)
-    (answered 0 0 0 (set (foldBelow (λ u i. set u i 0) t tableLength) 0 1) (record { wake = []; buffer = [] })) (refusedWith 9 t (record { wake = []; buffer = [] }))
+makeCells t = cond (eqb (length t) tableLength) (answered 0 0 0 (madeCells t) (record { wake = []; buffer = [] })) (refusedWith 9 t (record { wake = []; buffer = [] }))

@@ -23,7 +23,7 @@ use Rattle.model.proofs.Logic.{byBool}
 use Rattle.model.proofs.Rules.{accepted, clear, due, signal-keeps}
 use Rattle.model.proofs.Valid.{Valid, none-waiting, waiting-none, walk-valid, keeps-valid}
 use Rattle.model.proofs.Cells.{at-in, in-at, byPlace, Holds, holds}
-use Rattle.cells.specs.Calls.{Result, answered, refusedWith, woke, emptyObject, createCells, newFields, busyAt, closeCells, readOn, readCells, resetOn, resetCells, clearedAfter, signalOn, signalCells, expireCells, cancelCells, snapshotCells}
+use Rattle.cells.specs.Calls.{Result, answered, refusedWith, woke, emptyObject, createCells, newFields, busyAt, closeCells, readOn, readCells, resetOn, resetCells, clearedAfter, signalOn, signalCells, expireCells, ticketPlace, cancelCells, snapshotCells}
 use Rattle.cells.specs.Fold.{searchFrom}
 use Rattle.cells.specs.Objects.{fieldsAt, putFields, named, store, Changed, changed, postFields, ifHeld, unlockFields, killFields, switchFields}
 use Rattle.cells.specs.Walk.{wakeCells, endCells}
@@ -252,7 +252,7 @@ expire-is s g clock time l = byBool (ltb (length (l .wake)) wakeLength)
     rw (n, f, e) (done ∙ accepted-is s (expire clock time) l (rw (n, any-length (l .buffer), f)))))
 
 pub cancel-is : (s : State) → Valid s → (ticket : ℕ) (l : Lent) → cancelCells ticket (encode s) l ≡ means s (cancel ticket) l
-unfolding cancelCells refusals firstRefusal least change
+unfolding cancelCells ticketPlace refusals firstRefusal least change
 cancel-is s g ticket l =
     let f : ℕ → Bool = λ p. eqb (ticketAt (encode s) p) ticket in let p : ℕ = searchFrom f 0 waitPlaces in let r : First f 0 waitPlaces p = search-is f 0 waitPlaces in
     let absent : ((w : Wait) → w isIn s .waits → w .ticket ≡ ticket → ⊥) → refusedWith 1 (encode s) l ≡ means s (cancel ticket) l = λ h.

@@ -15,7 +15,7 @@ use Rattle.model.specs.Waits.{State}
 use Rattle.model.proofs.Logic.{byBool}
 use Rattle.model.proofs.Validity.{tables-valid}
 use Rattle.model.proofs.Valid.{Valid}
-use Rattle.cells.specs.Calls.{onCells, callCells, makeCells}
+use Rattle.cells.specs.Calls.{onCells, callCells, madeCells, makeCells}
 use Rattle.cells.specs.Fold.{foldBelow}
 use Rattle.refine.proofs.Calls.{told, create-is, close-is, read-is, reset-is, signal-is, expire-is, cancel-is, snapshot-is}
 use Rattle.refine.proofs.Fold.{fold-clears}
@@ -50,5 +50,5 @@ zeros n t e =
     ∙ sets-eq Z t 0 (omega arith) ∙ rw (d, drop-length t) (append-nil Z)
 
 pub make-means : (t : List ℕ) → makeCells t ≡ told (makeTables t)
-unfolding makeCells makeTables
+unfolding makeCells madeCells makeTables
 make-means t = byBool (eqb (length t) tableLength) (λ y. rw (y, zeros tableLength t (eqb-true _ _ y))) (λ n. rw n)

@@ -21,7 +21,7 @@ use Rattle.model.proofs.Logic.{byBool, byOption, fault-free}
 use Rattle.model.proofs.Valid.{Valid}
 use Rattle.cells.specs.Waits.{waitCell, nextTicket, ticketAt, has}
 use Rattle.model.proofs.Cells.{tabulate-is, read-next, write-wait, byPlace, holds, free-cell}
-use Rattle.cells.specs.Calls.{answered, badWait, putHeader, putList, emptyWait, queueCells, laterCells, waitOnCells}
+use Rattle.cells.specs.Calls.{answered, badWait, putHeader, putList, ticketPlace, emptyWait, queueCells, laterCells, waitOnCells}
 use Rattle.cells.specs.Fold.{searchFrom}
 use Rattle.cells.specs.Attempt.{missed, tryList}
 use Rattle.cells.specs.Validity.{occupiedAt, tooFew, occupiedList, repeatedList}
@@ -119,17 +119,17 @@ module _ (s : State) (g : Valid s) where
       (λ w e. let n : eqb (w .ticket) 0 ≡ false = ne-eqb (w .ticket) 0 (λ z. let a : 0 < w .ticket = above-zero s k w g e in let y : ⊥ = omega arith in y) in rw (e, ticket-at s k w (holds s k w g m e), n)))
 
   empty-full : ltb (emptyWait (encode s)) waitPlaces ≡ not (waitsFull (s .waits))
-  unfolding emptyWait
+  unfolding ticketPlace
   empty-full = let q = g .slots in rw (search-full (s .waits) 0 freeTest free-test, zero-add (length (s .waits)), q) (sym (Bool·not-not (ltb (searchFrom freeTest 0 waitPlaces) waitPlaces)))
 
   empty-free : emptyWait (encode s) < waitPlaces → getD (s .waits) (emptyWait (encode s)) free ≡ free
-  unfolding emptyWait
+  unfolding ticketPlace
   empty-free l = let p : ℕ = searchFrom freeTest 0 waitPlaces in byPlace (getD (s .waits) p free) (λ e. e)
       (λ w e. absurd (let t : ticketAt (encode s) p ≡ 0 = eqb-true _ _ ((search-is freeTest 0 waitPlaces) .found (omega arith)) in let a : 0 < w .ticket = above-zero s p w g e in
       let u : ticketAt (encode s) p ≡ w .ticket = ticket-at s p w (holds s p w g l e) in let y : ⊥ = omega arith in y))
 
   empty-enqueue : (w : Wait) → enqueue w (s .waits) ≡ set (s .waits) (emptyWait (encode s)) (waiting w)
-  unfolding emptyWait
+  unfolding ticketPlace
   empty-enqueue w = let q = g .slots in search-enqueue w (s .waits) 0 freeTest free-test
       ∙ ap (λ (n : ℕ). set (s .waits) n (waiting w)) (let z : searchFrom freeTest 0 (length (s .waits)) - 0 ≡ searchFrom freeTest 0 (length (s .waits)) = omega arith in z ∙ ap (searchFrom freeTest 0) q)
 

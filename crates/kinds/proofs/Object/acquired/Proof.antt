@@ -1,6 +1,6 @@
 use Rattle.kinds.proofs.Laws.{acquired-none}
 use Rattle.cells.specs.Objects.{acquiredFields}
-use Rattle.kinds.proofs.Tests.{tests}
+use Rattle.cells.proofs.Tests.{tests}
 use native.Mathlib.Omega.{arith}
 use borrow.Author.Needs.{needs}
 use Rattle.kinds.proofs.Object.acquired.Statement.{statement}

@@ -1,4 +1,4 @@
-use Rattle.kinds.proofs.Tests.{tests}
+use Rattle.cells.proofs.Tests.{tests}
 use native.Mathlib.Omega.{arith}
 use borrow.Author.Needs.{needs}
 use Rattle.kinds.proofs.Object.held_by.Statement.{statement}

@@ -1,7 +1,7 @@
 use Rattle.kinds.specs.Values.{cellsOf}
 use Rattle.kinds.proofs.Laws.{held-refused, held-done}
 use Rattle.cells.specs.Objects.{killFields}
-use Rattle.kinds.proofs.Tests.{tests}
+use Rattle.cells.proofs.Tests.{tests}
 use native.Mathlib.Omega.{arith}
 use borrow.Author.Needs.{needs}
 use Rattle.kinds.proofs.Object.kill.Statement.{statement}

@@ -1,6 +1,6 @@
 use Rattle.kinds.proofs.Laws.{post-low, post-over, post-done}
 use Rattle.cells.specs.Objects.{postFields}
-use Rattle.kinds.proofs.Tests.{tests}
+use Rattle.cells.proofs.Tests.{tests}
 use native.Mathlib.Omega.{arith}
 use borrow.Author.Needs.{needs}
 use Rattle.kinds.proofs.Object.post.Statement.{statement}

@@ -1,5 +1,5 @@
 use Rattle.cells.specs.Objects.{signaledFields}
-use Rattle.kinds.proofs.Tests.{tests}
+use Rattle.cells.proofs.Tests.{tests}
 use native.Mathlib.Omega.{arith}
 use borrow.Author.Needs.{needs}
 use Rattle.kinds.proofs.Object.signaled.Statement.{statement}

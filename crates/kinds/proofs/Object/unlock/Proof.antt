@@ -1,7 +1,7 @@
 use Rattle.kinds.specs.Values.{cellsOf}
 use Rattle.kinds.proofs.Laws.{held-refused, unlock-last, unlock-more}
 use Rattle.cells.specs.Objects.{unlockFields}
-use Rattle.kinds.proofs.Tests.{tests}
+use Rattle.cells.proofs.Tests.{tests}
 use native.Mathlib.Omega.{arith}
 use borrow.Author.Needs.{needs}
 use Rattle.kinds.proofs.Object.unlock.Statement.{statement}

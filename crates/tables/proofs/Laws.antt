@@ -1,0 +1,78 @@
+-- What the accessors' definitions come to on each way through the code.
+use Prim.Native.Nat.{ℕ, _+_, _-_, _*_, _≤_, _<_}
+use mathlib.Core.Path.{_≡_, refl, ap, sym, _∙_}
+use mathlib.Core.Bool.{Bool, true, false, cond}
+use mathlib.Core.List.{List}
+use native.Mathlib.Omega.{arith}
+use lib.ListN.{length, getD, take, drop}
+use lib.Dec.{eqb, ltb, leb}
+use borrow.Author.Tests.{lt-ltb, le-ltb, le-leb, lt-leb, eq-eqb, ne-eqb, leb-true}
+use Rattle.model.specs.Sizes.{objectPlaces, maxListed}
+use Rattle.model.specs.Layout.{headerSize, inWait}
+use Rattle.cells.specs.Objects.{Fields, fields, noFields, objectCell, fieldsAt, putFields, named, store}
+use Rattle.cells.specs.Waits.{waitCell, countAt, listOf, namesOf}
+
+-- a handle or not
+pub named-zero : (t : List ℕ) (h : ℕ) → h ≡ 0 → noFields ≡ named t h
+unfolding named
+named-zero t h e = rw e
+
+pub named-past : (t : List ℕ) (h : ℕ) → (h ≡ 0 → ⊥) → objectPlaces < h → noFields ≡ named t h
+unfolding named
+named-past t h n l = rw (ne-eqb h 0 n, lt-ltb objectPlaces h l)
+
+pub named-at : (t : List ℕ) (h : ℕ) → (h ≡ 0 → ⊥) → h ≤ objectPlaces → fieldsAt t (h - 1) ≡ named t h
+unfolding named
+named-at t h n l = rw (ne-eqb h 0 n, le-ltb objectPlaces h l)
+
+pub store-zero : (t : List ℕ) (h : ℕ) (x : Fields) → h ≡ 0 → t ≡ store t h x
+unfolding store
+store-zero t h x e = rw e
+
+pub store-past : (t : List ℕ) (h : ℕ) (x : Fields) → (h ≡ 0 → ⊥) → objectPlaces < h → t ≡ store t h x
+unfolding store
+store-past t h x n l = rw (ne-eqb h 0 n, lt-ltb objectPlaces h l)
+
+pub store-at : (t : List ℕ) (h : ℕ) (x : Fields) → (h ≡ 0 → ⊥) → h ≤ objectPlaces → putFields t (h - 1) x ≡ store t h x
+unfolding store
+store-at t h x n l = rw (ne-eqb h 0 n, le-ltb objectPlaces h l)
+
+pub fields-at : (t : List ℕ) (p : ℕ) → fields (getD t (objectCell p) 0) (getD t (objectCell p + 1) 0) (getD t (objectCell p + 2) 0) (getD t (objectCell p + 3) 0) ≡ fieldsAt t p
+unfolding fieldsAt
+fields-at t p = let z : objectCell p + 0 ≡ objectCell p = omega arith in rw z
+
+-- a list stays within its place
+pub count-is : (t : List ℕ) (p : ℕ) {n : ℕ} → n ≡ inWait t p 5 → n ≤ maxListed → n ≡ countAt t p
+unfolding countAt
+count-is t p {n} e l = rw (sym e, le-leb n maxListed l)
+
+pub count-none : (t : List ℕ) (p : ℕ) {n : ℕ} → n ≡ inWait t p 5 → maxListed < n → 0 ≡ countAt t p
+unfolding countAt
+count-none t p {n} e l = rw (sym e, lt-leb n maxListed l)
+
+cond-le : (n m : ℕ) (b : Bool) → leb n m ≡ b → cond b n 0 ≤ m
+cond-le n m true e = leb-true n m e
+cond-le n m false e = omega arith
+
+pub count-le : (t : List ℕ) (p : ℕ) → countAt t p ≤ maxListed
+unfolding countAt
+count-le t p = cond-le (inWait t p 5) maxListed (leb (inWait t p 5) maxListed) refl
+
+-- a part from a to a + n
+part : (t : List ℕ) (a n m : ℕ) → n ≡ m → take ((a + n) - a) (drop a t) ≡ take m (drop a t)
+part t a n m e = let k : (a + n) - a ≡ m = omega arith in rw k
+
+pub list-part : (t : List ℕ) (p : ℕ) {n : ℕ} → n ≡ countAt t p → take ((waitCell p + headerSize + n) - (waitCell p + headerSize)) (drop (waitCell p + headerSize) t) ≡ listOf t p
+unfolding listOf
+list-part t p {n} e = part t (waitCell p + headerSize) n (countAt t p) e
+
+pub names-part : (t : List ℕ) (p : ℕ) {n : ℕ} → n ≡ countAt t p → take ((waitCell p + 6 + n + 1) - (waitCell p + 6)) (drop (waitCell p + 6) t) ≡ namesOf t p
+unfolding namesOf
+names-part t p {n} e = let k : (waitCell p + 6 + n + 1) - (waitCell p + 6) ≡ countAt t p + 1 = omega arith in rw k
+
+-- the searches, from p on
+pub object-empty : (t : List ℕ) (p : ℕ) (x : Fields) → x ≡ fieldsAt t p → x .kind ≡ 0 → eqb (fieldsAt t p .kind) 0 ≡ true
+object-empty t p x e z = rw (sym e) (eq-eqb (x .kind) 0 z)
+
+pub object-full : (t : List ℕ) (p : ℕ) (x : Fields) → x ≡ fieldsAt t p → (x .kind ≡ 0 → ⊥) → eqb (fieldsAt t p .kind) 0 ≡ false
+object-full t p x e n = rw (sym e) (ne-eqb (x .kind) 0 n)
