@@ -1,5 +1,8 @@
 -- Loops as definitions: a fold over the indices below a count, and a search upwards.
-use Prim.Native.Nat.{ℕ, zero, suc}
+use Prim.Native.Nat.{ℕ, zero, suc, _+_}
+use mathlib.Core.List.{List}
+use lib.ListN.{getD}
+use lib.Bits.{bitOr}
 use mathlib.Core.Bool.{Bool, true, false, _&&_, _||_, cond}
 
 -- step at 0, 1, .. n - 1, from a
@@ -18,3 +21,11 @@ someBelow f n = foldBelow (λ b i. b || f i) false n
 unfoldable pub searchFrom : (ℕ → Bool) → ℕ → ℕ → ℕ
 searchFrom f i zero = i
 searchFrom f i (suc n) = let later = searchFrom f (suc i) n in cond (f i) i later
+
+-- f 0 to f (n - 1), or'ed
+abbrev pub orBelow : (ℕ → ℕ) → ℕ → ℕ
+orBelow f n = foldBelow (λ x i. bitOr x (f i)) 0 n
+
+-- the cell k places after a
+abbrev pub cellFrom : List ℕ → ℕ → ℕ → ℕ
+cellFrom t a k = getD t (a + k) 0

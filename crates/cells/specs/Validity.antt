@@ -1,6 +1,6 @@
 -- The validity check, place by place: loops bounded by the number of listed handles, each zero and each handle met once.
 use Prim.Native.Nat.{ℕ, _+_, _-_, _*_}
-use mathlib.Core.List.{List, [], _∷_}
+use mathlib.Core.List.{List, [], _∷_, _++_}
 use mathlib.Core.Bool.{Bool, true, false, not, _&&_, _||_, cond}
 use lib.ListN.{length, getD}
 use lib.Dec.{eqb, ltb, leb}
@@ -44,10 +44,17 @@ unusedZero t p n = allBelow (λ k. eqb (inWait t p (headerSize + n + k)) 0) (max
 unfoldable pub aloneAt : List ℕ → ℕ → Bool
 aloneAt t p = allBelow (λ q. not (eqb (ticketAt t q) (ticketAt t p))) p
 
+-- a queued wait, its header and what it names
+abbrev pub headerTests : List ℕ → ℕ → List Bool
+headerTests t p = ltb (ticketAt t p) (nextTicket t) ∷ aloneAt t p ∷ leb (modeAt t p) 1 ∷ ltb 0 (ownerAt t p) ∷ ltb (ownerAt t p) word32 ∷ leb (clockAt t p) 1
+    ∷ not (tooFew (modeAt t p) (inWait t p 5)) ∷ leb (inWait t p 5) maxListed ∷ []
+
+abbrev pub namesTests : List ℕ → ℕ → List Bool
+namesTests t p = occupiedList t (listOf t p) ∷ unusedZero t p (countAt t p)
+    ∷ (eqb (alertAt t p) 0 || eventAt t (alertAt t p)) ∷ (eqb (modeAt t p) 0 || not (has (listOf t p) (alertAt t p) || repeatedList (listOf t p))) ∷ []
+
 unfoldable pub validQueued : List ℕ → ℕ → Bool
-validQueued t p = allOf (ltb (ticketAt t p) (nextTicket t) ∷ aloneAt t p ∷ leb (modeAt t p) 1 ∷ ltb 0 (ownerAt t p) ∷ ltb (ownerAt t p) word32 ∷ leb (clockAt t p) 1
-    ∷ not (tooFew (modeAt t p) (inWait t p 5)) ∷ leb (inWait t p 5) maxListed ∷ occupiedList t (listOf t p) ∷ unusedZero t p (countAt t p)
-    ∷ (eqb (alertAt t p) 0 || eventAt t (alertAt t p)) ∷ (eqb (modeAt t p) 0 || not (has (listOf t p) (alertAt t p) || repeatedList (listOf t p))) ∷ [])
+validQueued t p = allOf (headerTests t p ++ namesTests t p)
 
 unfoldable pub validFree : List ℕ → ℕ → Bool
 validFree t p = allBelow (λ j. eqb (inWait t p j) 0) waitSize

@@ -8,9 +8,12 @@ use lib.ListN.{length, getD, take, drop}
 use lib.Dec.{eqb, ltb, leb}
 use borrow.Author.Tests.{lt-ltb, le-ltb, le-leb, lt-leb, eq-eqb, ne-eqb, leb-true}
 use Rattle.model.specs.Sizes.{objectPlaces, maxListed}
-use Rattle.model.specs.Layout.{headerSize, inWait}
+use Rattle.model.specs.Layout.{headerSize, waitSize, inWait}
 use Rattle.cells.specs.Objects.{Fields, fields, noFields, objectCell, fieldsAt, putFields, named, store}
+use Rattle.cells.specs.Fold.{orBelow, cellFrom}
 use Rattle.cells.specs.Waits.{waitCell, countAt, listOf, namesOf}
+use Rattle.cells.specs.Validity.{unusedZero, validFree}
+use Rattle.cells.proofs.Fold.{or-all-zero, all-same}
 
 -- a handle or not
 pub named-zero : (t : List ℕ) (h : ℕ) → h ≡ 0 → noFields ≡ named t h
@@ -76,3 +79,14 @@ object-empty t p x e z = rw (sym e) (eq-eqb (x .kind) 0 z)
 
 pub object-full : (t : List ℕ) (p : ℕ) (x : Fields) → x ≡ fieldsAt t p → (x .kind ≡ 0 → ⊥) → eqb (fieldsAt t p .kind) 0 ≡ false
 object-full t p x e n = rw (sym e) (ne-eqb (x .kind) 0 n)
+
+-- zero from a place's cell on
+pub unused-zero : (t : List ℕ) (p : ℕ) {n x : ℕ} → n ≡ countAt t p → x ≡ orBelow (cellFrom t (waitCell p + (headerSize + n))) (maxListed - n) → eqb x 0 ≡ unusedZero t p (countAt t p)
+unfolding unusedZero
+unused-zero t p {n} {x} e o = rw (o, sym e) (or-all-zero (cellFrom t (waitCell p + (headerSize + n))) (maxListed - n)
+    ∙ all-same (λ k. eqb (getD t (waitCell p + (headerSize + n) + k) 0) 0) (λ k. eqb (inWait t p (headerSize + n + k)) 0) (maxListed - n)
+    (λ k. let i : waitCell p + (headerSize + n) + k ≡ waitCell p + (headerSize + n + k) = omega arith in rw i))
+
+pub free-zero : (t : List ℕ) (p : ℕ) {x : ℕ} → x ≡ orBelow (cellFrom t (waitCell p)) waitSize → eqb x 0 ≡ validFree t p
+unfolding validFree
+free-zero t p o = rw o (or-all-zero (cellFrom t (waitCell p)) waitSize)

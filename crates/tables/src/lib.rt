@@ -1,12 +1,14 @@
 // The cells of the lent tables: objects and waits, read, written and searched. Only this crate knows where a cell stands.
 ghost use mathlib.Core.Path.{_≡_};
-ghost use Prim.Native.Nat.{_<_};
+ghost use Prim.Native.Nat.{_+_, _≤_, _<_};
 ghost use lib.ListN.{length};
 ghost use Rattle.model.specs.Sizes.{objectPlaces, waitPlaces, maxListed};
 ghost use Rattle.model.specs.Layout.{objectSize, headerSize, waitSize, waitsBase, tableLength, inWait};
 ghost use Rattle.cells.specs.Objects.{fieldsAt, putFields, named, store};
 ghost use Rattle.cells.specs.Waits.{nextTicket, ticketAt, modeAt, ownerAt, clockAt, timeoutAt, countAt, alertAt, listOf, namesOf, has, namesAt, clearWait};
 ghost use Rattle.cells.specs.Calls.{emptyObject, ticketPlace, madeCells};
+ghost use Rattle.cells.specs.Fold.{orBelow, cellFrom};
+ghost use Rattle.cells.specs.Validity.{unusedZero, validFree};
 ghost use Rattle.kinds.specs.Values.{cellsOf};
 use kinds::Object;
 
@@ -159,12 +161,20 @@ pub fn timeout_at(t: &[u64], p: usize) -> u64
     wait_cell(t, p, 4)
 }
 
+// The number of listed handles, as the cell has it.
+pub fn listed_at(t: &[u64], p: usize) -> u64
+    requires { ⌜ (p < waitPlaces) × (length (now t) ≡ tableLength) ⌝ }
+    ensures { λ r. ⌜ r ≡ inWait (now (t .entry)) p 5 ⌝ }
+{
+    wait_cell(t, p, 5)
+}
+
 // The number of listed handles; a number past the list counts none.
 pub fn count_at(t: &[u64], p: usize) -> usize
     requires { ⌜ (p < waitPlaces) × (length (now t) ≡ tableLength) ⌝ }
     ensures { λ r. ⌜ r ≡ countAt (now (t .entry)) p ⌝ }
 {
-    let n = wait_cell(t, p, 5);
+    let n = listed_at(t, p);
     if n <= (MAX_LISTED as u64) {
         return n as usize;
     }
@@ -247,6 +257,40 @@ pub fn clear_wait(t: &mut [u64], p: usize)
         t[at] = 0;
         i += 1;
     }
+}
+
+// ---- cells that must be zero
+
+// The n cells from a on, or'ed.
+fn bits_of(t: &[u64], a: usize, n: usize) -> u64
+    requires { ⌜ a + n ≤ length (now t) ⌝ }
+    ensures { λ r. ⌜ r ≡ orBelow (cellFrom (now (t .entry)) a) n ⌝ }
+{
+    let mut x: u64 = 0;
+    let mut k: usize = 0;
+    while k < n {
+        x = x | t[a + k];
+        k += 1;
+    }
+    x
+}
+
+// A wait's list is zero from its end on.
+pub fn unused_zero(t: &[u64], p: usize) -> bool
+    requires { ⌜ (p < waitPlaces) × (length (now t) ≡ tableLength) ⌝ }
+    ensures { λ r. ⌜ r ≡ unusedZero (now (t .entry)) p (countAt (now (t .entry)) p) ⌝ }
+{
+    let n = count_at(t, p);
+    let from = WAITS_BASE + WAIT_SIZE * p + (HEADER_SIZE + n);
+    bits_of(t, from, MAX_LISTED - n) == 0
+}
+
+// All cells of an empty wait place are zero.
+pub fn free_zero(t: &[u64], p: usize) -> bool
+    requires { ⌜ (p < waitPlaces) × (length (now t) ≡ tableLength) ⌝ }
+    ensures { λ r. ⌜ r ≡ validFree (now (t .entry)) p ⌝ }
+{
+    bits_of(t, WAITS_BASE + WAIT_SIZE * p, WAIT_SIZE) == 0
 }
 
 // ---- making
