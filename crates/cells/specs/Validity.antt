@@ -36,6 +36,13 @@ occupiedList t list = allBelow (λ i. occupiedAt t (getD list i 0)) (length list
 unfoldable pub repeatedList : List ℕ → Bool
 repeatedList list = someBelow (λ k. someBelow (λ j. eqb (getD list j 0) (getD list k 0)) k) (length list)
 
+-- repeats are found by flags, which every handle has
+abbrev pub marks : ℕ
+marks = 256
+
+abbrev pub belowMarks : List ℕ → Bool
+belowMarks list = allBelow (λ i. ltb (getD list i 0) marks) (length list)
+
 -- the list's cells from the n-th on are zero
 unfoldable pub unusedZero : List ℕ → ℕ → ℕ → Bool
 unusedZero t p n = allBelow (λ k. eqb (inWait t p (headerSize + n + k)) 0) (maxListed - n)

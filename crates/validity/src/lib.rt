@@ -1,0 +1,219 @@
+// The validity check (01: sound tables, else damaged): one pass over the objects, one over the waits.
+ghost use mathlib.Core.Path.{_≡_};
+ghost use mathlib.Core.Bool.{true, not};
+ghost use Prim.Native.Nat.{_<_};
+ghost use lib.ListN.{length};
+ghost use Rattle.model.specs.Basics.{allOf};
+ghost use Rattle.model.specs.Sizes.{objectPlaces, waitPlaces};
+ghost use Rattle.model.specs.Layout.{tableLength};
+ghost use Rattle.cells.specs.Fold.{allBelow};
+ghost use Rattle.cells.specs.Objects.{fieldsAt};
+ghost use Rattle.cells.specs.Validity.{validFields, occupiedAt, eventAt, tooFew, occupiedList, belowMarks, repeatedList, aloneAt, headerTests, namesTests, validPlace, validCells};
+ghost use Rattle.kinds.specs.Values.{cellsOf};
+use kinds::Event;
+use kinds::Mutex;
+use kinds::Object;
+use kinds::Semaphore;
+
+const WORD32: u64 = 4294967296;
+
+// Flags for the numbers below it, among them every handle.
+const MARKS: usize = 256;
+
+// ---- objects
+
+pub fn valid_object(o: Object) -> bool
+    ensures { λ r. ⌜ r ≡ validFields (cellsOf o) ⌝ }
+{
+    let kind = o.kind;
+    let count = o.count;
+    let owner = o.owner;
+    let attribute = o.attribute;
+    if kind == 0 {
+        return (count == 0) & (owner == 0) & (attribute == 0);
+    }
+    if kind == Semaphore::KIND {
+        return (count <= attribute) & (attribute < WORD32) & (owner == 0);
+    }
+    if kind == Mutex::KIND {
+        return (owner < WORD32)
+            & (count < WORD32)
+            & (attribute <= 1)
+            & ((owner == 0) == (count == 0))
+            & ((attribute == 0) | (owner == 0));
+    }
+    if kind == Event::KIND {
+        return (count <= 1) & (attribute <= 1) & (owner == 0);
+    }
+    false
+}
+
+fn valid_objects(t: &[u64]) -> bool
+    requires { ⌜ length (now t) ≡ tableLength ⌝ }
+    ensures { λ r. ⌜ r ≡ allBelow (λ p. validFields (fieldsAt (now (t .entry)) p)) objectPlaces ⌝ }
+{
+    let mut ok = true;
+    let mut p: usize = 0;
+    while p < tables::OBJECT_PLACES {
+        let o = tables::object_at(t, p);
+        let here = valid_object(o);
+        ok = ok & here;
+        p += 1;
+    }
+    ok
+}
+
+// ---- what a wait names
+
+pub fn occupied(t: &[u64], h: u64) -> bool
+    requires { ⌜ length (now t) ≡ tableLength ⌝ }
+    ensures { λ r. ⌜ r ≡ occupiedAt (now (t .entry)) h ⌝ }
+{
+    let o = tables::named(t, h);
+    0 < o.kind
+}
+
+pub fn is_event(t: &[u64], h: u64) -> bool
+    requires { ⌜ length (now t) ≡ tableLength ⌝ }
+    ensures { λ r. ⌜ r ≡ eventAt (now (t .entry)) h ⌝ }
+{
+    let o = tables::named(t, h);
+    o.kind == Event::KIND
+}
+
+pub fn occupied_list(t: &[u64], list: &[u64]) -> bool
+    requires { ⌜ length (now t) ≡ tableLength ⌝ }
+    ensures { λ r. ⌜ r ≡ occupiedList (now (t .entry)) (now (list .entry)) ⌝ }
+{
+    let mut ok = true;
+    let mut i: usize = 0;
+    while i < list.len() {
+        let h = list[i];
+        let here = occupied(t, h);
+        ok = ok & here;
+        i += 1;
+    }
+    ok
+}
+
+// No number twice, by a flag for each number met: asked only of numbers that have a flag.
+pub fn distinct(list: &[u64]) -> bool
+    ensures { λ r. ⌜ (belowMarks (now (list .entry)) ≡ true → r ≡ not (repeatedList (now (list .entry)))) ⌝ }
+{
+    let mut seen: [u8; MARKS] = [0; MARKS];
+    let mut ok = true;
+    let mut i: usize = 0;
+    while i < list.len() {
+        let h = (list[i] % (MARKS as u64)) as usize;
+        ok = ok & (seen[h] == 0);
+        seen[h] = 1;
+        i += 1;
+    }
+    ok
+}
+
+// Refusing an empty list is house.
+pub fn too_few(mode: u64, n: u64) -> bool
+    ensures { λ r. ⌜ r ≡ tooFew mode n ⌝ }
+{
+    n == 0
+}
+
+// ---- waits
+
+// No place before p has its ticket.
+fn alone(t: &[u64], p: usize) -> bool
+    requires { ⌜ (p < waitPlaces) × (length (now t) ≡ tableLength) ⌝ }
+    ensures { λ r. ⌜ r ≡ aloneAt (now (t .entry)) p ⌝ }
+{
+    let ticket = tables::ticket_at(t, p);
+    let mut ok = true;
+    let mut q: usize = 0;
+    while q < p {
+        let other = tables::ticket_at(t, q);
+        ok = ok & !(other == ticket);
+        q += 1;
+    }
+    ok
+}
+
+fn valid_header(t: &[u64], p: usize) -> bool
+    requires { ⌜ (p < waitPlaces) × (length (now t) ≡ tableLength) ⌝ }
+    ensures { λ r. ⌜ r ≡ allOf (headerTests (now (t .entry)) p) ⌝ }
+{
+    let ticket = tables::ticket_at(t, p);
+    let next = tables::next_ticket(t);
+    let alone = alone(t, p);
+    let mode = tables::mode_at(t, p);
+    let owner = tables::owner_at(t, p);
+    let clock = tables::clock_at(t, p);
+    let n = tables::listed_at(t, p);
+    let few = too_few(mode, n);
+    (ticket < next)
+        & alone
+        & (mode <= 1)
+        & (0 < owner)
+        & (owner < WORD32)
+        & (clock <= 1)
+        & !few
+        & (n <= (tables::MAX_LISTED as u64))
+}
+
+fn valid_names(t: &[u64], p: usize) -> bool
+    requires { ⌜ (p < waitPlaces) × (length (now t) ≡ tableLength) ⌝ }
+    ensures { λ r. ⌜ r ≡ allOf (namesTests (now (t .entry)) p) ⌝ }
+{
+    let list = tables::list_of(t, p);
+    let listed = occupied_list(t, list);
+    let unused = tables::unused_zero(t, p);
+    let alert = tables::alert_at(t, p);
+    let event = is_event(t, alert);
+    let ok = listed & unused & ((alert == 0) | event);
+    let mode = tables::mode_at(t, p);
+    if mode == 0 {
+        return ok;
+    }
+    let names = tables::names_of(t, p);
+    let once = distinct(names);
+    ok & once
+}
+
+fn valid_place(t: &[u64], p: usize) -> bool
+    requires { ⌜ (p < waitPlaces) × (length (now t) ≡ tableLength) ⌝ }
+    ensures { λ r. ⌜ r ≡ validPlace (now (t .entry)) p ⌝ }
+{
+    let ticket = tables::ticket_at(t, p);
+    if ticket == 0 {
+        return tables::free_zero(t, p);
+    }
+    let header = valid_header(t, p);
+    let names = valid_names(t, p);
+    header & names
+}
+
+fn valid_waits(t: &[u64]) -> bool
+    requires { ⌜ length (now t) ≡ tableLength ⌝ }
+    ensures { λ r. ⌜ r ≡ allBelow (validPlace (now (t .entry))) waitPlaces ⌝ }
+{
+    let mut ok = true;
+    let mut p: usize = 0;
+    while p < tables::WAIT_PLACES {
+        let here = valid_place(t, p);
+        ok = ok & here;
+        p += 1;
+    }
+    ok
+}
+
+// The whole check, of any cells.
+pub fn valid(t: &[u64]) -> bool
+    ensures { λ r. ⌜ r ≡ validCells (now (t .entry)) ⌝ }
+{
+    if t.len() != tables::TABLE_LENGTH {
+        return false;
+    }
+    let next = tables::next_ticket(t);
+    let objects = valid_objects(t);
+    let waits = valid_waits(t);
+    (0 < next) & objects & waits
+}
