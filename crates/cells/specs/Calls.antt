@@ -57,6 +57,9 @@ unfoldable pub closeCells : ℕ → List ℕ → Lent → Result
 closeCells h t l = cond (occupiedAt t h) (cond (someBelow (busyAt t h) waitPlaces) (refusedWith 10 t l) (answered 0 0 0 (store t h noFields) l)) (refusedWith 1 t l)
 
 -- READING and RESETTING
+abbrev pub readPair : ℕ → ℕ → List ℕ → Lent → Result
+readPair kind h t l = cond (eqb (named t h .kind) kind) (answered 0 (named t h .count) (named t h .attribute) t l) (refusedWith 1 t l)
+
 abbrev pub readOn : Kind → Fields → List ℕ → Lent → Result
 readOn aSemaphore x t l = cond (eqb (x .kind) 1) (answered 0 (x .count) (x .attribute) t l) (refusedWith 1 t l)
 readOn aMutex x t l = cond (eqb (x .kind) 2) (cond (ltb 0 (x .attribute)) (answered 4 0 0 t l) (answered 0 (x .owner) (x .count) t l)) (refusedWith 1 t l)

@@ -1,0 +1,57 @@
+use mathlib.Core.List.{List, []}
+use Rattle.model.specs.Calls.{lend}
+use Rattle.kinds.specs.Values.{cellsOf}
+use Rattle.calls.proofs.Laws.{create-bad, create-done, create-full}
+use native.Mathlib.Omega.{arith}
+use borrow.Author.Needs.{needs}
+use Rattle.calls.proofs.create.Statement.{statement}
+use Rattle.calls.proofs.create.Tie as tie
+use Rattle.calls.proofs.create.Reads as reads
+use Rattle.calls.proofs.create.Lts as lts
+use Rattle.tables.proofs.empty_object.Reads as empty-object-reads
+use Rattle.tables.proofs.put_object.Reads as put-object-reads
+
+-- src/lib.rt:32:9
+returns : tie.Need-returns
+returns c = let a = c .before .before .args in create-bad (a .t .now) (lend [] []) (cellsOf (a .o)) (c .if1 .taken)
+
+-- src/lib.rt:38:9
+empty-object-requires : tie.Need-empty-object-requires
+empty-object-requires c κs = search needs
+
+-- src/lib.rt:40:9
+put-object-requires : tie.Need-put-object-requires
+put-object-requires c κs = search needs
+
+-- src/lib.rt:43:20
+add-t12 : tie.Need-add-t12
+add-t12 c = search needs
+
+-- src/lib.rt:41:9
+same-length : tie.Need-same-length
+same-length c = search needs
+
+-- src/lib.rt:41:9
+returns-2 : tie.Need-returns-2
+returns-2 c = let a = c .before .before .before .before .before .before .before .before .before .args in rw (c .before .before .put-object .ensures) (create-done (a .t .now) (lend [] []) (cellsOf (a .o)) (c .before .before .before .before .before .before .before .if1 .left) (c .before .before .before .before .before .empty-object .ensures) (c .before .before .before .before .if2 .taken))
+
+-- src/lib.rt:27:1
+same-length-2 : tie.Need-same-length-2
+same-length-2 c = search needs
+
+-- src/lib.rt:27:1
+returns-3 : tie.Need-returns-3
+returns-3 c = let a = c .before .before .before .before .before .args in create-full (a .t .now) (lend [] []) (cellsOf (a .o)) (c .before .before .before .if1 .left) (c .before .empty-object .ensures) (c .if2 .left)
+
+pub create-spec : {M : Type 1} → statement M
+create-spec =
+    tie.close
+    (tie.spec
+    returns
+    empty-object-requires
+    put-object-requires
+    add-t12
+    same-length
+    returns-2
+    same-length-2
+    returns-3)
