@@ -1,4 +1,4 @@
--- What a call that is lent nothing but the tables leaves: its numbers and the tables.
+-- What a call that is lent nothing but the tables leaves: its two numbers and the tables.
 use Prim.Native.Nat.{ℕ}
 use mathlib.Core.List.{List, []}
 use Rattle.model.specs.Calls.{lend}

@@ -1,4 +1,5 @@
-// The calls that wake nobody, on tables of the right length: each behind its refusals, in their order.
+// The calls that wake nobody, each behind its refusals, in their order. Reading asks for valid tables: their objects' numbers
+// have 32 bits.
 ghost use mathlib.Core.Path.{_≡_};
 ghost use mathlib.Core.List.{[]};
 ghost use Prim.Native.Nat.{_<_};
@@ -7,7 +8,9 @@ ghost use Rattle.model.specs.Sizes.{waitPlaces};
 ghost use Rattle.model.specs.Calls.{lend, aSemaphore, aMutex, anEvent};
 ghost use Rattle.model.specs.Layout.{tableLength};
 ghost use Rattle.cells.specs.Fold.{someBelow};
-ghost use Rattle.cells.specs.Calls.{createCells, busyAt, closeCells, readPair, readCells, resetCells, cancelCells};
+ghost use mathlib.Core.Bool.{true};
+ghost use Rattle.cells.specs.Validity.{validCells};
+ghost use Rattle.cells.specs.Calls.{answered, createCells, busyAt, closeCells, readPair, readCells, resetCells, cancelCells};
 ghost use Rattle.kinds.specs.Values.{cellsOf};
 ghost use Rattle.calls.specs.Values.{leftBy};
 use kinds::Event;
@@ -15,38 +18,40 @@ use kinds::Mutex;
 use kinds::Object;
 use kinds::Semaphore;
 
-// An answer and the numbers with it, 0 where no rule gives one.
+// An answer and the number with it, or two numbers; 0 where no rule gives one.
+pub struct Numbered {
+    pub answer: u32,
+    pub number: u32,
+}
+
 pub struct Numbers {
-    pub answer: u64,
-    pub first: u64,
-    pub second: u64,
+    pub answer: u32,
+    pub first: u32,
+    pub second: u32,
 }
 
 // A new object at the lowest empty place; `bad` is true where its numbers are refused.
-pub fn create(t: &mut [u64], bad: bool, o: Object) -> Numbers
+pub fn create(t: &mut [u64], bad: bool, o: Object) -> Numbered
     requires { ⌜ length (now t) ≡ tableLength ⌝ }
-    ensures { λ r. ⌜ leftBy r (now (t .exit)) ≡ createCells bad (cellsOf o) (now (t .entry)) (lend [] []) ⌝ }
+    ensures { λ r. ⌜ answered (r .answer) (r .number) 0 (now (t .exit)) (lend [] []) ≡ createCells bad (cellsOf o) (now (t .entry)) (lend [] []) ⌝ }
 {
     if bad {
-        return Numbers {
+        return Numbered {
             answer: 1,
-            first: 0,
-            second: 0,
+            number: 0,
         };
     }
     let p = tables::empty_object(t);
     if p < tables::OBJECT_PLACES {
         tables::put_object(t, p, o);
-        return Numbers {
+        return Numbered {
             answer: 0,
-            first: (p as u64) + 1,
-            second: 0,
+            number: (p + 1) as u32,
         };
     }
-    Numbers {
+    Numbered {
         answer: 7,
-        first: 0,
-        second: 0,
+        number: 0,
     }
 }
 
@@ -76,25 +81,17 @@ fn busy(t: &[u64], h: u64) -> bool
     found
 }
 
-pub fn close(t: &mut [u64], h: u64) -> Numbers
+pub fn close(t: &mut [u64], h: u64) -> u32
     requires { ⌜ length (now t) ≡ tableLength ⌝ }
-    ensures { λ r. ⌜ leftBy r (now (t .exit)) ≡ closeCells h (now (t .entry)) (lend [] []) ⌝ }
+    ensures { λ r. ⌜ answered r 0 0 (now (t .exit)) (lend [] []) ≡ closeCells h (now (t .entry)) (lend [] []) ⌝ }
 {
     let empty = !validity::occupied(t, h);
     if empty {
-        return Numbers {
-            answer: 1,
-            first: 0,
-            second: 0,
-        };
+        return 1;
     }
     let named = busy(t, h);
     if named {
-        return Numbers {
-            answer: 10,
-            first: 0,
-            second: 0,
-        };
+        return 10;
     }
     tables::store(
         t,
@@ -106,24 +103,20 @@ pub fn close(t: &mut [u64], h: u64) -> Numbers
             attribute: 0,
         },
     );
-    Numbers {
-        answer: 0,
-        first: 0,
-        second: 0,
-    }
+    0
 }
 
 // The count and the attribute of an object of this kind.
 fn read_pair(t: &[u64], h: u64, kind: u64) -> Numbers
-    requires { ⌜ length (now t) ≡ tableLength ⌝ }
+    requires { ⌜ (length (now t) ≡ tableLength) × (validCells (now t) ≡ true) ⌝ }
     ensures { λ r. ⌜ leftBy r (now (t .entry)) ≡ readPair kind h (now (t .entry)) (lend [] []) ⌝ }
 {
     let o = tables::named(t, h);
     if o.kind == kind {
         return Numbers {
             answer: 0,
-            first: o.count,
-            second: o.attribute,
+            first: o.count as u32,
+            second: o.attribute as u32,
         };
     }
     Numbers {
@@ -134,14 +127,14 @@ fn read_pair(t: &[u64], h: u64, kind: u64) -> Numbers
 }
 
 pub fn read_semaphore(t: &[u64], h: u64) -> Numbers
-    requires { ⌜ length (now t) ≡ tableLength ⌝ }
+    requires { ⌜ (length (now t) ≡ tableLength) × (validCells (now t) ≡ true) ⌝ }
     ensures { λ r. ⌜ leftBy r (now (t .entry)) ≡ readCells aSemaphore h (now (t .entry)) (lend [] []) ⌝ }
 {
     read_pair(t, h, Semaphore::KIND)
 }
 
 pub fn read_event(t: &[u64], h: u64) -> Numbers
-    requires { ⌜ length (now t) ≡ tableLength ⌝ }
+    requires { ⌜ (length (now t) ≡ tableLength) × (validCells (now t) ≡ true) ⌝ }
     ensures { λ r. ⌜ leftBy r (now (t .entry)) ≡ readCells anEvent h (now (t .entry)) (lend [] []) ⌝ }
 {
     read_pair(t, h, Event::KIND)
@@ -149,7 +142,7 @@ pub fn read_event(t: &[u64], h: u64) -> Numbers
 
 // An abandoned mutex is told by its answer alone.
 pub fn read_mutex(t: &[u64], h: u64) -> Numbers
-    requires { ⌜ length (now t) ≡ tableLength ⌝ }
+    requires { ⌜ (length (now t) ≡ tableLength) × (validCells (now t) ≡ true) ⌝ }
     ensures { λ r. ⌜ leftBy r (now (t .entry)) ≡ readCells aMutex h (now (t .entry)) (lend [] []) ⌝ }
 {
     let o = tables::named(t, h);
@@ -169,56 +162,42 @@ pub fn read_mutex(t: &[u64], h: u64) -> Numbers
     }
     Numbers {
         answer: 0,
-        first: o.owner,
-        second: o.count,
+        first: o.owner as u32,
+        second: o.count as u32,
     }
 }
 
-pub fn reset(t: &mut [u64], h: u64) -> Numbers
-    requires { ⌜ length (now t) ≡ tableLength ⌝ }
-    ensures { λ r. ⌜ leftBy r (now (t .exit)) ≡ resetCells h (now (t .entry)) (lend [] []) ⌝ }
+pub fn reset(t: &mut [u64], h: u64) -> Numbered
+    requires { ⌜ (length (now t) ≡ tableLength) × (validCells (now t) ≡ true) ⌝ }
+    ensures { λ r. ⌜ answered (r .answer) (r .number) 0 (now (t .exit)) (lend [] []) ≡ resetCells h (now (t .entry)) (lend [] []) ⌝ }
 {
     let o = tables::named(t, h);
-    let previous = o.count;
+    let previous = o.count as u32;
     let c = o.switch(0);
     if c.answer != 0 {
-        return Numbers {
+        return Numbered {
             answer: c.answer,
-            first: 0,
-            second: 0,
+            number: 0,
         };
     }
     tables::store(t, h, c.next);
-    Numbers {
+    Numbered {
         answer: 0,
-        first: previous,
-        second: 0,
+        number: previous,
     }
 }
 
-pub fn cancel(t: &mut [u64], ticket: u64) -> Numbers
+pub fn cancel(t: &mut [u64], ticket: u64) -> u32
     requires { ⌜ length (now t) ≡ tableLength ⌝ }
-    ensures { λ r. ⌜ leftBy r (now (t .exit)) ≡ cancelCells ticket (now (t .entry)) (lend [] []) ⌝ }
+    ensures { λ r. ⌜ answered r 0 0 (now (t .exit)) (lend [] []) ≡ cancelCells ticket (now (t .entry)) (lend [] []) ⌝ }
 {
     if ticket == 0 {
-        return Numbers {
-            answer: 1,
-            first: 0,
-            second: 0,
-        };
+        return 1;
     }
     let p = tables::ticket_place(t, ticket);
     if p < tables::WAIT_PLACES {
         tables::clear_wait(t, p);
-        return Numbers {
-            answer: 6,
-            first: 0,
-            second: 0,
-        };
+        return 6;
     }
-    Numbers {
-        answer: 1,
-        first: 0,
-        second: 0,
-    }
+    1
 }

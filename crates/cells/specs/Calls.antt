@@ -171,6 +171,10 @@ onCells snapshot t l = snapshotCells t l
 unfoldable pub callCells : Call → List ℕ → Result
 callCells c t = cond (validCells t) (onCells (c .operation) t (c .lent)) (refusedWith 9 t (c .lent))
 
+-- a call that is lent nothing but the tables
+abbrev pub guarded : List ℕ → Result → Result
+guarded t r = cond (validCells t) r (refusedWith 9 t (record { wake = []; buffer = [] }))
+
 -- MAKING looks at the length alone
 unfoldable pub madeCells : List ℕ → List ℕ
 madeCells t = set (foldBelow (λ u i. set u i 0) t tableLength) 0 1

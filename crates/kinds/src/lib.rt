@@ -29,7 +29,7 @@ pub struct Creation {
 
 // A rule's answer (0 where it holds), and the object's next state.
 pub struct Change {
-    pub answer: u64,
+    pub answer: u32,
     pub next: Object,
 }
 
@@ -286,7 +286,7 @@ impl Object {
     }
 
     // 0 where `asking` holds this mutex; EINVAL for another kind or owner 0, EPERM for another owner.
-    fn held_by(self, asking: u64) -> u64
+    fn held_by(self, asking: u64) -> u32
         ensures { λ r. ⌜ r ≡ ifHeld asking (cellsOf self) (cellsOf self) .answer ⌝ }
     {
         let kind = self.kind;

@@ -273,3 +273,22 @@ pub valid-cells : (t : List ℕ) → Words t → validCells t ≡ validTables t
 valid-cells t words = same-tests (validCells t) (validTables t)
     (λ e. lines-test t (cells-lines t words e))
     (λ e. lines-cells t (test-lines t e))
+
+-- what valid tables give a reader: the length, and objects of 32-bit numbers
+pub valid-length : (t : List ℕ) → validCells t ≡ true → length t ≡ tableLength
+valid-length t e = (checked t e) .0
+
+abbrev pub Small : Fields → Type 0
+Small x = (x .count < word32) × (x .owner < word32) × (x .attribute < word32)
+
+fields-small : (x : Fields) → ValidObject (x .kind) (x .count) (x .owner) (x .attribute) → Small x
+fields-small x v = byBool (eqb (x .kind) 0) (λ y. let r = v .zeros (eqb-true _ _ y) in let a : x .count ≡ 0 = r .0 in let b : x .owner ≡ 0 = r .1 in let c : x .attribute ≡ 0 = r .2 in (omega arith, omega arith, omega arith))
+    (λ n₀. byBool (eqb (x .kind) 1) (λ y. let r = v .semaphore (eqb-true _ _ y) in let a : x .count ≤ x .attribute = r .0 in let b : x .attribute < word32 = r .1 in let c : x .owner ≡ 0 = r .2 in (omega arith, omega arith, omega arith))
+    (λ n₁. byBool (eqb (x .kind) 2) (λ y. let r = v .mutex (eqb-true _ _ y) in let a : x .owner < word32 = r .0 in let b : x .count < word32 = r .1 in let c : x .attribute ≤ 1 = r .2 in (b, a, omega arith))
+    (λ n₂. let k : x .kind ≡ 3 = kind-left (x .kind) (v .kinds) (eqb-false _ _ n₀) (eqb-false _ _ n₁) (eqb-false _ _ n₂) in let r = v .event k in let a : x .count ≤ 1 = r .0 in let b : x .attribute ≤ 1 = r .1 in let c : x .owner ≡ 0 = r .2 in (omega arith, omega arith, omega arith))))
+  where
+    kind-left : (k : ℕ) → k ≤ 3 → (k ≡ 0 → ⊥) → (k ≡ 1 → ⊥) → (k ≡ 2 → ⊥) → k ≡ 3
+    kind-left k l a b c = omega (arith, a, b, c)
+
+pub named-small : (t : List ℕ) (h : ℕ) → validCells t ≡ true → Small (named t h)
+named-small t h e = handle-of t h (λ z. rw z (omega arith, omega arith, omega arith)) (λ a b. rw (named-place t h a b) (fields-small (fieldsAt t (h - 1)) (lines-to (fieldsAt t (h - 1)) ((checked t e) .2 (h - 1) (omega arith)))))
