@@ -1,9 +1,15 @@
 // The public calls for Rattle callers (document 01). Nothing is required of a caller: any tables, any numbers. Each contract
 // is one equation with the meaning: the answer, the numbers with it and every cell of the tables.
 ghost use mathlib.Core.Path.{_≡_};
-ghost use Rattle.model.specs.Calls.{create, close, resetEvent, read, cancel, aSemaphore, aMutex, anEvent};
+ghost use mathlib.Core.List.{[]};
+ghost use mathlib.Core.Bool.{not};
+ghost use Rattle.model.specs.Calls.{create, close, resetEvent, read, cancel, aSemaphore, aMutex, anEvent, lend};
 ghost use Rattle.model.specs.Steps.{tableStep, makeTables};
+ghost use Rattle.cells.specs.Calls.{answered, createCells, guarded};
+ghost use Rattle.kinds.specs.Values.{cellsOf};
 ghost use Rattle.ntsync.specs.Contract.{asked, leaving};
+use calls::Numbered;
+use kinds::Creation;
 use kinds::Event;
 use kinds::Mutex;
 use kinds::Semaphore;
@@ -35,6 +41,7 @@ pub struct EventState {
     pub manual: u32,
 }
 
+// `woken` counts the records at the front of the wake list, 0 where the call has none.
 #[repr(C)]
 pub struct Changed {
     pub answer: u32,
@@ -55,20 +62,151 @@ pub fn init(tables: &mut [u64]) -> u32
     0
 }
 
+// ---- creating
+
+fn place(tables: &mut [u64], new: Creation) -> Numbered
+    ensures { λ r. ⌜ answered (r .answer) (r .number) 0 (now (tables .exit)) (lend [] [])
+        ≡ guarded (now (tables .entry)) (createCells (not (new .ok)) (cellsOf (new .object)) (now (tables .entry)) (lend [] [])) ⌝ }
+{
+    let corrupt = !validity::valid(tables);
+    if corrupt {
+        return Numbered {
+            answer: CORRUPT,
+            number: 0,
+        };
+    }
+    calls::create(tables, !new.ok, new.object)
+}
+
 pub fn create_sem(tables: &mut [u64], count: u32, max: u32) -> Created
     ensures { λ r. ⌜ leaving (r .answer) (r .handle) 0 (now (tables .exit)) ≡ tableStep (now (tables .entry)) (asked (create aSemaphore count max)) ⌝ }
 {
-    let valid = validity::valid(tables);
-    if !valid {
-        return Created {
+    let new = Semaphore::create(count, max);
+    let r = place(tables, new);
+    Created {
+        answer: r.answer,
+        handle: r.number,
+    }
+}
+
+pub fn create_mutex(tables: &mut [u64], owner: u32, count: u32) -> Created
+    ensures { λ r. ⌜ leaving (r .answer) (r .handle) 0 (now (tables .exit)) ≡ tableStep (now (tables .entry)) (asked (create aMutex owner count)) ⌝ }
+{
+    let new = Mutex::create(owner, count);
+    let r = place(tables, new);
+    Created {
+        answer: r.answer,
+        handle: r.number,
+    }
+}
+
+pub fn create_event(tables: &mut [u64], signaled: u32, manual: u32) -> Created
+    ensures { λ r. ⌜ leaving (r .answer) (r .handle) 0 (now (tables .exit)) ≡ tableStep (now (tables .entry)) (asked (create anEvent signaled manual)) ⌝ }
+{
+    let new = Event::create(signaled, manual);
+    let r = place(tables, new);
+    Created {
+        answer: r.answer,
+        handle: r.number,
+    }
+}
+
+// ---- reading
+
+pub fn read_sem(tables: &[u64], handle: u32) -> SemaphoreState
+    ensures { λ r. ⌜ leaving (r .answer) (r .count) (r .max) (now (tables .entry)) ≡ tableStep (now (tables .entry)) (asked (read aSemaphore handle)) ⌝ }
+{
+    let corrupt = !validity::valid(tables);
+    if corrupt {
+        return SemaphoreState {
             answer: CORRUPT,
-            handle: 0,
+            count: 0,
+            max: 0,
         };
     }
-    let new = Semaphore::create(count, max);
-    let r = calls::create(tables, !new.ok, new.object);
-    Created {
-        answer: r.answer as u32,
-        handle: r.first as u32,
+    let r = calls::read_semaphore(tables, handle as u64);
+    SemaphoreState {
+        answer: r.answer,
+        count: r.first,
+        max: r.second,
     }
+}
+
+pub fn read_mutex(tables: &[u64], handle: u32) -> MutexState
+    ensures { λ r. ⌜ leaving (r .answer) (r .owner) (r .count) (now (tables .entry)) ≡ tableStep (now (tables .entry)) (asked (read aMutex handle)) ⌝ }
+{
+    let corrupt = !validity::valid(tables);
+    if corrupt {
+        return MutexState {
+            answer: CORRUPT,
+            owner: 0,
+            count: 0,
+        };
+    }
+    let r = calls::read_mutex(tables, handle as u64);
+    MutexState {
+        answer: r.answer,
+        owner: r.first,
+        count: r.second,
+    }
+}
+
+pub fn read_event(tables: &[u64], handle: u32) -> EventState
+    ensures { λ r. ⌜ leaving (r .answer) (r .signaled) (r .manual) (now (tables .entry)) ≡ tableStep (now (tables .entry)) (asked (read anEvent handle)) ⌝ }
+{
+    let corrupt = !validity::valid(tables);
+    if corrupt {
+        return EventState {
+            answer: CORRUPT,
+            signaled: 0,
+            manual: 0,
+        };
+    }
+    let r = calls::read_event(tables, handle as u64);
+    EventState {
+        answer: r.answer,
+        signaled: r.first,
+        manual: r.second,
+    }
+}
+
+// ---- closing, resetting, cancelling
+
+pub fn close(tables: &mut [u64], handle: u32) -> u32
+    ensures { λ r. ⌜ leaving r 0 0 (now (tables .exit)) ≡ tableStep (now (tables .entry)) (asked (close handle)) ⌝ }
+{
+    let corrupt = !validity::valid(tables);
+    if corrupt {
+        return CORRUPT;
+    }
+    calls::close(tables, handle as u64)
+}
+
+pub fn reset(tables: &mut [u64], handle: u32) -> Changed
+    ensures { λ r. ⌜ (leaving (r .answer) (r .previous) 0 (now (tables .exit)) ≡ tableStep (now (tables .entry)) (asked (resetEvent handle))) × (r .woken ≡ 0) ⌝ }
+{
+    let corrupt = !validity::valid(tables);
+    if corrupt {
+        return Changed {
+            answer: CORRUPT,
+            previous: 0,
+            woken: 0,
+        };
+    }
+    let r = calls::reset(tables, handle as u64);
+    Changed {
+        answer: r.answer,
+        previous: r.number,
+        woken: 0,
+    }
+}
+
+pub fn cancel(tables: &mut [u64], ticket: u64) -> u32
+    ensures { λ r. ⌜ leaving r 0 0 (now (tables .exit)) ≡ tableStep (now (tables .entry)) (asked (cancel ticket)) ⌝ }
+{
+    let corrupt = !validity::valid(tables);
+    if corrupt {
+        return CORRUPT;
+    }
+    calls::cancel(tables, ticket)
 }
