@@ -14,15 +14,7 @@ use Rattle.cells.specs.Validity.{occupiedAt, validCells}
 use Rattle.refine.proofs.Validity.{Small, named-small}
 use Rattle.cells.specs.Calls.{answered, refusedWith, emptyObject, createCells, busyAt, closeCells, readPair, readCells, resetCells, ticketPlace, cancelCells}
 use native.Mathlib.Omega.{arith}
-use Rattle.model.proofs.Logic.{clash}
-
-not-true : (b : Bool) → not b ≡ true → b ≡ false
-not-true true e = clash e refl
-not-true false e = refl
-
-not-false : (b : Bool) → not b ≡ false → b ≡ true
-not-false true e = refl
-not-false false e = clash refl e
+use Rattle.model.proofs.Logic.{not-true, not-false}
 
 -- the numbers of an object of valid tables have 32 bits
 pub small-of : (t : List ℕ) (h : ℕ) (x : Fields) → x ≡ named t h → validCells t ≡ true → Small x

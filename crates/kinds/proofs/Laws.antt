@@ -56,7 +56,3 @@ pub not-more : (a b : ℕ) → leb a b ≡ not (ltb b a)
 not-more a b = byBool (ltb b a)
     (λ y. rw y (byBool (leb a b) (λ z. absurd (let p = borrow.Author.Tests.ltb-true b a y in let q = borrow.Author.Tests.leb-true a b z in let w : ⊥ = omega arith in w)) (λ f. f)))
     (λ n. rw n (borrow.Author.Tests.le-leb a b (borrow.Author.Tests.ltb-false b a n)))
-
-pub not-twice : (b : Bool) → b ≡ not (not b)
-not-twice true = refl
-not-twice false = refl

@@ -1,6 +1,6 @@
 -- Cases on computed values, and laws of tests.
 use mathlib.Core.Path.{_≡_, refl, sym}
-use mathlib.Core.Bool.{Bool, true, false, _&&_, _||_}
+use mathlib.Core.Bool.{Bool, true, false, not, _&&_, _||_}
 use mathlib.Core.List.{List, [], _∷_}
 use mathlib.Core.Option.{Option, none, some}
 use Prim.Native.Nat.{ℕ, zero, suc}
@@ -37,6 +37,18 @@ pub same-tests : (a b : Bool) → a implies b → b implies a → a ≡ b
 same-tests true b f g = sym (f refl)
 same-tests false true f g = g refl
 same-tests false false f g = refl
+
+pub not-true : (b : Bool) → not b ≡ true → b ≡ false
+not-true true e = clash e refl
+not-true false e = refl
+
+pub not-false : (b : Bool) → not b ≡ false → b ≡ true
+not-false true e = refl
+not-false false e = clash refl e
+
+pub not-twice : (b : Bool) → b ≡ not (not b)
+not-twice true = refl
+not-twice false = refl
 
 pub and-split : (a b : Bool) → (a && b) ≡ true → (a ≡ true) × (b ≡ true)
 and-split true true e = (refl, refl)

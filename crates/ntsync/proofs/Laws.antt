@@ -9,7 +9,7 @@ use borrow.Author.Tests.{eq-eqb, ne-eqb}
 use Rattle.model.specs.Calls.{Operation, create, Kind, lend, badNew}
 use Rattle.model.specs.Layout.{tableLength}
 use Rattle.model.specs.Steps.{Outcome, tableStep, makeTables}
-use Rattle.model.proofs.Logic.{clash}
+use Rattle.model.proofs.Logic.{not-true, not-false, not-twice}
 use Rattle.cells.specs.Objects.{Fields}
 use Rattle.cells.specs.Validity.{validCells}
 use Rattle.cells.specs.Calls.{Result, answered, refusedWith, createCells, newFields, onCells, callCells, guarded, madeCells, makeCells}
@@ -26,14 +26,6 @@ no-length (x ∷ xs) e = absurd (let w : ⊥ = omega arith in w)
 pub untold : (o : Outcome (List ℕ)) {a x y : ℕ} {t : List ℕ} → answered a x y t (lend [] []) ≡ told o → leaving a x y t ≡ o
 untold o e = let n = no-length (o .reports) (ap (λ (r : Result). r .woken) e) in
     λ i. record { answer = (e i) .answer; first = (e i) .first; second = (e i) .second; reports = n i; lent = lend ((e i) .wake) ((e i) .buffer); held = (e i) .tables }
-
-not-true : (b : Bool) → not b ≡ true → b ≡ false
-not-true true e = clash e refl
-not-true false e = refl
-
-not-false : (b : Bool) → not b ≡ false → b ≡ true
-not-false true e = refl
-not-false false e = clash refl e
 
 -- tables that were found corrupt, or valid
 module _ (t : List ℕ) {v : Bool} (q : v ≡ validCells t) where
@@ -62,13 +54,9 @@ module _ (op : Operation) (t : List ℕ) {v : Bool} (w : Words t) (q : v ≡ val
   served n e = means op t w (guarded-in t q n e)
 
 -- a creation: its constructor's numbers
-not-twice : (b : Bool) → not (not b) ≡ b
-not-twice true = refl
-not-twice false = refl
-
 pub creates : (k : Kind) (x y : ℕ) (t : List ℕ) {a n : ℕ} {t′ : List ℕ} {ok : Bool} {f : Fields} → Words t → ok ≡ not (badNew k x y) → f ≡ newFields k x y → answered a n 0 t′ (lend [] []) ≡ guarded t (createCells (not ok) f t (lend [] []))
     → leaving a n 0 t′ ≡ tableStep t (asked (create k x y))
-creates k x y t w p q e = means (create k x y) t w (rw (p, not-twice (badNew k x y), q) at e)
+creates k x y t w p q e = means (create k x y) t w (rw (p, sym (not-twice (badNew k x y)), q) at e)
 
 -- making
 pub made : (t : List ℕ) → length t ≡ tableLength → leaving 0 0 0 (madeCells t) ≡ makeTables t

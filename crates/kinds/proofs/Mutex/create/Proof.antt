@@ -1,5 +1,5 @@
 use mathlib.Core.Path.{_∙_, sym, ap}
-use Rattle.kinds.proofs.Laws.{not-twice}
+use Rattle.model.proofs.Logic.{not-twice}
 use native.Mathlib.Omega.{arith}
 use borrow.Author.Needs.{needs}
 use Rattle.kinds.proofs.Mutex.create.Statement.{statement}
