@@ -4,14 +4,15 @@ use mathlib.Core.Path.{_≡_, refl, ap, sym, _∙_}
 use mathlib.Core.Bool.{Bool, true, false, cond}
 use mathlib.Core.List.{List}
 use native.Mathlib.Omega.{arith}
-use lib.ListN.{length, getD, take, drop}
+use lib.ListN.{length, getD, set, take, drop}
 use lib.Dec.{eqb, ltb, leb}
 use borrow.Author.Tests.{lt-ltb, le-ltb, le-leb, lt-leb, eq-eqb, ne-eqb, leb-true}
 use Rattle.model.specs.Sizes.{objectPlaces, maxListed}
 use Rattle.model.specs.Layout.{headerSize, waitSize, inWait}
 use Rattle.cells.specs.Objects.{Fields, fields, noFields, objectCell, fieldsAt, putFields, named, store}
 use Rattle.cells.specs.Fold.{orBelow, cellFrom}
-use Rattle.cells.specs.Waits.{waitCell, countAt, listOf, namesOf}
+use Rattle.cells.specs.Waits.{nextTicket, waitCell, countAt, listOf, namesOf}
+use Rattle.cells.specs.Calls.{putHeader, putList, queueCells}
 use Rattle.cells.specs.Validity.{unusedZero, validFree}
 use Rattle.cells.proofs.Fold.{or-all-zero, all-same}
 
@@ -90,3 +91,9 @@ unused-zero t p {n} {x} e o = rw (o, sym e) (or-all-zero (cellFrom t (waitCell p
 pub free-zero : (t : List ℕ) (p : ℕ) {x : ℕ} → x ≡ orBelow (cellFrom t (waitCell p)) waitSize → eqb x 0 ≡ validFree t p
 unfolding validFree
 free-zero t p o = rw o (or-all-zero (cellFrom t (waitCell p)) waitSize)
+
+-- a wait queued: header, list, next ticket
+pub queued-is : (t : List ℕ) (p mode : ℕ) (list : List ℕ) (owner clock alert timeout : ℕ) {ticket : ℕ} {u v : List ℕ} → ticket ≡ nextTicket t → u ≡ putHeader t p ticket mode owner clock timeout (length list) alert → v ≡ putList u p list
+    → set v 0 (ticket + 1) ≡ queueCells t p mode list owner clock alert timeout
+unfolding queueCells
+queued-is t p mode list owner clock alert timeout e a b = rw (b, a, e)

@@ -2,11 +2,11 @@
 ghost use mathlib.Core.Path.{_≡_};
 ghost use Prim.Native.Nat.{_+_, _≤_, _<_};
 ghost use lib.ListN.{length};
-ghost use Rattle.model.specs.Sizes.{objectPlaces, waitPlaces, maxListed};
+ghost use Rattle.model.specs.Sizes.{objectPlaces, waitPlaces, maxListed, word64};
 ghost use Rattle.model.specs.Layout.{objectSize, headerSize, waitSize, waitsBase, tableLength, inWait};
 ghost use Rattle.cells.specs.Objects.{fieldsAt, putFields, named, store};
 ghost use Rattle.cells.specs.Waits.{nextTicket, ticketAt, modeAt, ownerAt, clockAt, timeoutAt, countAt, alertAt, listOf, namesOf, has, namesAt, clearWait};
-ghost use Rattle.cells.specs.Calls.{emptyObject, ticketPlace, madeCells};
+ghost use Rattle.cells.specs.Calls.{emptyObject, ticketPlace, madeCells, putHeader, putList, queueCells};
 ghost use Rattle.cells.specs.Fold.{orBelow, cellFrom};
 ghost use Rattle.cells.specs.Validity.{unusedZero, validFree};
 ghost use Rattle.kinds.specs.Values.{cellsOf};
@@ -257,6 +257,75 @@ pub fn clear_wait(t: &mut [u64], p: usize)
         t[at] = 0;
         i += 1;
     }
+}
+
+// ---- queuing
+
+fn put_header(
+    t: &mut [u64],
+    p: usize,
+    ticket: u64,
+    mode: u64,
+    owner: u64,
+    clock: u64,
+    timeout: u64,
+    n: u64,
+    alert: u64,
+)
+    requires { ⌜ (p < waitPlaces) × (length (now t) ≡ tableLength) ⌝ }
+    ensures { λ _. ⌜ now (t .exit) ≡ putHeader (now (t .entry)) p ticket mode owner clock timeout n alert ⌝ }
+{
+    let at = WAITS_BASE + WAIT_SIZE * p;
+    t[at] = ticket;
+    t[at + 1] = mode;
+    t[at + 2] = owner;
+    t[at + 3] = clock;
+    t[at + 4] = timeout;
+    t[at + 5] = n;
+    t[at + 6] = alert;
+}
+
+fn put_list(t: &mut [u64], p: usize, list: &[u64])
+    requires { ⌜ (p < waitPlaces) × (length (now t) ≡ tableLength) × (length (now list) ≤ maxListed) ⌝ }
+    ensures { λ _. ⌜ now (t .exit) ≡ putList (now (t .entry)) p (now (list .entry)) ⌝ }
+{
+    let base = WAITS_BASE + WAIT_SIZE * p + HEADER_SIZE;
+    let mut k: usize = 0;
+    while k < list.len() {
+        let at = base + k;
+        t[at] = list[k];
+        k += 1;
+    }
+}
+
+// A wait at empty place p, under the next ticket, which rises by one.
+pub fn queue(
+    t: &mut [u64],
+    p: usize,
+    mode: u64,
+    list: &[u64],
+    owner: u64,
+    clock: u64,
+    alert: u64,
+    timeout: u64,
+)
+    requires { ⌜ (p < waitPlaces) × (length (now t) ≡ tableLength) × (length (now list) ≤ maxListed) × (nextTicket (now t) + 1 < word64) ⌝ }
+    ensures { λ _. ⌜ now (t .exit) ≡ queueCells (now (t .entry)) p mode (now (list .entry)) owner clock alert timeout ⌝ }
+{
+    let ticket = next_ticket(t);
+    put_header(
+        t,
+        p,
+        ticket,
+        mode,
+        owner,
+        clock,
+        timeout,
+        list.len() as u64,
+        alert,
+    );
+    put_list(t, p, list);
+    t[0] = ticket + 1;
 }
 
 // ---- cells that must be zero
