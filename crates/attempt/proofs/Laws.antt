@@ -118,3 +118,24 @@ module _ (t : List ℕ) (asking : ℕ) where
     pub list-all : {mode : ℕ} → (mode ≡ 0 → ⊥) → tryAll t asking alert list ≡ tryList t mode asking alert list
     unfolding tryList
     list-all {mode} n = rw (ne-eqb mode 0 n)
+
+-- an attempt that fails alters nothing
+alert-same : (t : List ℕ) (asking alert n : ℕ) → (byAlert t asking alert n) .served ≡ false → (byAlert t asking alert n) .tables ≡ t
+unfolding byAlert takeOne
+alert-same t asking alert n e = byBool (signaledAt t asking alert) (λ y. clash refl (let q : true ≡ false = rw y at e in q)) (λ m. rw m)
+
+any-same : (t : List ℕ) (asking alert : ℕ) (list : List ℕ) → (tryAny t asking alert list) .served ≡ false → (tryAny t asking alert list) .tables ≡ t
+unfolding tryAny takeOne
+any-same t asking alert list e = byBool (ltb (lookAny t asking list) (length list)) (λ y. clash refl (let q : true ≡ false = rw y at e in q))
+    (λ n. rw n (alert-same t asking alert (length list) (let q : (byAlert t asking alert (length list)) .served ≡ false = rw n at e in q)))
+
+all-same-tables : (t : List ℕ) (asking alert : ℕ) (list : List ℕ) → (tryAll t asking alert list) .served ≡ false → (tryAll t asking alert list) .tables ≡ t
+unfolding tryAll
+all-same-tables t asking alert list e = byBool (lookAll t asking list) (λ y. clash refl (let q : true ≡ false = rw y at e in q))
+    (λ n. rw n (alert-same t asking alert (length list) (let q : (byAlert t asking alert (length list)) .served ≡ false = rw n at e in q)))
+
+pub missed-same : (t : List ℕ) (mode asking alert : ℕ) (list : List ℕ) → (tryList t mode asking alert list) .served ≡ false → (tryList t mode asking alert list) .tables ≡ t
+unfolding tryList
+missed-same t mode asking alert list e = byBool (eqb mode 0)
+    (λ y. rw y (any-same t asking alert list (let q : (tryAny t asking alert list) .served ≡ false = rw y at e in q)))
+    (λ n. rw n (all-same-tables t asking alert list (let q : (tryAll t asking alert list) .served ≡ false = rw n at e in q)))

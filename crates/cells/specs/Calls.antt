@@ -145,11 +145,14 @@ laterCells mode hs asking flags alert timeout time t l =
     (cond (leb word64 (nextTicket t + 1)) (refusedWith 8 t l) (answered 11 0 (nextTicket t) (queueCells t (emptyWait t) mode hs asking flags alert timeout) l))
     (refusedWith 7 t l))
 
+-- the attempt comes first
+abbrev pub actCells : ℕ → List ℕ → ℕ → ℕ → ℕ → ℕ → ℕ → List ℕ → Lent → Result
+actCells mode hs asking flags alert timeout time t l = let r = tryList t mode asking alert hs in
+    cond (r .served) (answered (r .answer) (r .index) 0 (r .tables) l) (laterCells mode hs asking flags alert timeout time t l)
+
 unfoldable pub waitOnCells : ℕ → List ℕ → ℕ → ℕ → ℕ → ℕ → ℕ → ℕ → List ℕ → Lent → Result
 waitOnCells mode hs asking flags pad alert timeout time t l =
-    cond (badWait mode hs asking flags pad alert t) (refusedWith 1 t l)
-    (let r = tryList t mode asking alert hs in
-    cond (r .served) (answered (r .answer) (r .index) 0 (r .tables) l) (laterCells mode hs asking flags alert timeout time t l))
+    cond (badWait mode hs asking flags pad alert t) (refusedWith 1 t l) (actCells mode hs asking flags alert timeout time t l)
 
 unfoldable pub snapshotCells : List ℕ → Lent → Result
 snapshotCells t l = cond (ltb (length (l .buffer)) snapshotBuffer) (refusedWith 12 t l)

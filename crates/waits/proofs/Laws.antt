@@ -1,0 +1,104 @@
+-- What a wait's definitions come to on each way through the code.
+use Prim.Native.Nat.{ℕ, _+_, _<_, _≤_}
+use mathlib.Core.Path.{_≡_, refl, sym, ap, _∙_}
+use mathlib.Core.Bool.{Bool, true, false, not, _&&_, _||_, cond, or-assoc, or-false}
+use mathlib.Core.List.{List, [], _∷_}
+use native.Mathlib.Omega.{arith}
+use lib.ListN.{length, getD, set, take}
+use lib.Seq.{take-suc, take-suc-set}
+use native.Mathlib.Numerals.{add-one}
+use lib.Dec.{eqb, ltb, leb}
+use borrow.Author.Tests.{lt-ltb, le-ltb, le-leb, lt-leb, eq-eqb, ne-eqb, ltb-true}
+use Rattle.model.specs.Sizes.{waitPlaces, maxListed, word64, never}
+use Rattle.model.specs.Basics.{anyOf}
+use Rattle.model.specs.Calls.{Lent, timeUp}
+use Rattle.model.proofs.Logic.{byBool, clash, not-true, not-false, not-twice, fault-free}
+use Rattle.cells.specs.Waits.{nextTicket, has}
+use Rattle.cells.specs.Validity.{occupiedAt, eventAt, tooFew, occupiedList, repeatedList, belowMarks, marks}
+use Rattle.cells.specs.Attempt.{Tried, tryList}
+use Rattle.attempt.proofs.Laws.{missed-same}
+use Rattle.cells.specs.Calls.{Result, answered, refusedWith, badWait, ticketPlace, queueCells, laterCells, actCells, waitOnCells}
+use Rattle.refine.proofs.Fold.{all-at, all-intro}
+use Rattle.validity.proofs.Laws.{occupied-flagged}
+
+-- tests joined one after another
+abbrev pub eitherLeft : Bool → List Bool → Bool
+eitherLeft a [] = a
+eitherLeft a (b ∷ bs) = eitherLeft (a || b) bs
+
+pub any-left : (a : Bool) (bs : List Bool) → eitherLeft a bs ≡ anyOf (a ∷ bs)
+unfolding anyOf
+any-left a [] = sym (or-false a)
+any-left a (b ∷ bs) = any-left (a || b) bs ∙ or-assoc a b (anyOf bs)
+
+or-same : (a b c : Bool) → (a ≡ false → b ≡ c) → (a || b) ≡ (a || c)
+or-same true b c f = refl
+or-same false b c f = f refl
+
+pub list-flagged : (t list : List ℕ) → occupiedList t list ≡ true → belowMarks list ≡ true
+unfolding occupiedList
+list-flagged t list o = all-intro (λ i. ltb (getD list i 0) marks) (length list) (λ i l. occupied-flagged t (getD list i 0) (all-at (λ i. occupiedAt t (getD list i 0)) (length list) o i l))
+
+-- the faults of a wait, from what was read
+module _ (t : List ℕ) (mode : ℕ) (list : List ℕ) (asking flags pad alert : ℕ) {few listed event : Bool} (f : few ≡ tooFew mode (length list)) (o : listed ≡ occupiedList t list) (e : event ≡ eventAt t alert) where
+  abbrev faults : List Bool
+  faults = ltb maxListed (length list) ∷ not (occupiedList t list) ∷ eqb asking 0 ∷ ltb 1 flags ∷ not (eqb pad 0) ∷ not (eqb alert 0 || eventAt t alert) ∷ []
+
+  pub bad-any : mode ≡ 0 → eitherLeft few (ltb maxListed (length list) ∷ not listed ∷ eqb asking 0 ∷ ltb 1 flags ∷ not (eqb pad 0) ∷ not (eqb alert 0 || event) ∷ []) ≡ badWait mode list asking flags pad alert t
+  unfolding badWait anyOf
+  bad-any z = rw (f, o, e, eq-eqb mode 0 z) (any-left (tooFew mode (length list)) faults)
+
+  pub bad-all : (mode ≡ 0 → ⊥) → {again once : Bool} → again ≡ has list alert → (belowMarks list ≡ true → once ≡ not (repeatedList list))
+      → eitherLeft few (ltb maxListed (length list) ∷ not listed ∷ eqb asking 0 ∷ ltb 1 flags ∷ not (eqb pad 0) ∷ not (eqb alert 0 || event) ∷ (again || not once) ∷ []) ≡ badWait mode list asking flags pad alert t
+  unfolding badWait
+  bad-all n {again} {once} h d =
+      let B : Bool = eitherLeft (tooFew mode (length list)) faults in let D : Bool = has list alert || repeatedList list in
+      rw (f, o, e, ne-eqb mode 0 n) (or-same B (again || not once) D (λ q. let v = fault-free (tooFew mode (length list) ∷ faults) (sym (any-left (tooFew mode (length list)) faults) ∙ q) 2 in
+      rw (h, d (list-flagged t list (not-false (occupiedList t list) v)), sym (not-twice (repeatedList list))))
+      ∙ any-left (tooFew mode (length list)) (ltb maxListed (length list) ∷ not (occupiedList t list) ∷ eqb asking 0 ∷ ltb 1 flags ∷ not (eqb pad 0) ∷ not (eqb alert 0 || eventAt t alert) ∷ D ∷ []))
+
+-- after a failed attempt
+module _ (t : List ℕ) (mode : ℕ) (list : List ℕ) (asking flags alert timeout time : ℕ) (l : Lent) where
+  module _ {up : Bool} (u : up ≡ timeUp timeout time) where
+    pub later-up : up ≡ true → answered 5 0 0 t l ≡ laterCells mode list asking flags alert timeout time t l
+    unfolding laterCells
+    later-up y = rw (sym u, y)
+
+    module _ (n : up ≡ false) {p : ℕ} (q : p ≡ ticketPlace t 0) where
+      pub later-full : waitPlaces ≤ p → refusedWith 7 t l ≡ laterCells mode list asking flags alert timeout time t l
+      unfolding laterCells
+      later-full h = rw (sym u, n, sym q, le-ltb p waitPlaces h)
+
+      pub later-spent : {ticket : ℕ} → p < waitPlaces → ticket ≡ nextTicket t → ticket ≡ never → refusedWith 8 t l ≡ laterCells mode list asking flags alert timeout time t l
+      unfolding laterCells
+      later-spent {ticket} h e z = rw (sym u, n, sym q, lt-ltb p waitPlaces h, sym e, le-leb word64 (ticket + 1) (omega (arith, z)))
+
+      pub later-queued : {ticket : ℕ} {v : List ℕ} → p < waitPlaces → ticket ≡ nextTicket t → ticket + 1 < word64 → v ≡ queueCells t p mode list asking flags alert timeout → answered 11 0 ticket v l ≡ laterCells mode list asking flags alert timeout time t l
+      unfolding laterCells
+      later-queued {ticket} h e b w = rw (sym u, n, sym q, lt-ltb p waitPlaces h, w, sym e, lt-leb word64 (ticket + 1) b)
+
+  pub act-served : (r : Tried) → r ≡ tryList t mode asking alert list → r .served ≡ true → answered (r .answer) (r .index) 0 (r .tables) l ≡ actCells mode list asking flags alert timeout time t l
+  act-served r e y = rw (sym e, y)
+
+  pub act-later : (r : Tried) → r ≡ tryList t mode asking alert list → r .served ≡ false → (q : Result) → q ≡ laterCells mode list asking flags alert timeout time (r .tables) l → q ≡ actCells mode list asking flags alert timeout time t l
+  act-later r e y q h = let s : r .tables ≡ t = ap (λ (x : Tried). x .tables) e ∙ missed-same t mode asking alert list (ap (λ (x : Tried). x .served) (sym e) ∙ y) in
+      h ∙ ap (λ (u : List ℕ). laterCells mode list asking flags alert timeout time u l) s ∙ rw (sym e, y)
+
+  module _ (pad : ℕ) where
+    pub wait-long : maxListed < length list → refusedWith 1 t l ≡ waitOnCells mode list asking flags pad alert timeout time t l
+    unfolding waitOnCells badWait
+    wait-long h = byBool (badWait mode list asking flags pad alert t) (λ y. rw y) (λ n. clash (lt-ltb maxListed (length list) h) (fault-free _ n 1))
+
+    -- through a copy of the list
+    pub wait-bad : {copy : List ℕ} {bad : Bool} → copy ≡ list → bad ≡ badWait mode copy asking flags pad alert t → bad ≡ true → refusedWith 1 t l ≡ waitOnCells mode list asking flags pad alert timeout time t l
+    unfolding waitOnCells
+    wait-bad {copy} {bad} k e y = let q : badWait mode list asking flags pad alert t ≡ true = ap (λ (x : List ℕ). badWait mode x asking flags pad alert t) (sym k) ∙ sym e ∙ y in rw q
+
+    pub wait-acts : {copy : List ℕ} {bad : Bool} → copy ≡ list → bad ≡ badWait mode copy asking flags pad alert t → bad ≡ false → (q : Result) → q ≡ actCells mode copy asking flags alert timeout time t l → q ≡ waitOnCells mode list asking flags pad alert timeout time t l
+    unfolding waitOnCells
+    wait-acts {copy} {bad} k e y q h = let z : badWait mode list asking flags pad alert t ≡ false = ap (λ (x : List ℕ). badWait mode x asking flags pad alert t) (sym k) ∙ sym e ∙ y in
+        h ∙ ap (λ (x : List ℕ). actCells mode x asking flags alert timeout time t l) k ∙ rw z
+
+-- one more number copied
+pub copied : (wide list : List ℕ) (i : ℕ) → take i wide ≡ take i list → i < length wide → i < length list → take (i + 1) (set wide i (getD list i 0)) ≡ take (i + 1) list
+copied wide list i e l m = rw (add-one, take-suc-set wide i (getD list i 0) l, take-suc list i 0 m, e)
