@@ -6,7 +6,8 @@ use mathlib.Core.List.{List}
 use native.Mathlib.Omega.{arith}
 use lib.ListN.{length, getD}
 use lib.Dec.{eqb, ltb}
-use borrow.Author.Tests.{lt-ltb, le-ltb, eq-eqb, ne-eqb}
+use native.Mathlib.Nat.{le-refl}
+use borrow.Author.Tests.{lt-ltb, le-ltb, eq-eqb, ne-eqb, ltb-true}
 use Rattle.model.proofs.Logic.{byBool, clash, not-true, not-false}
 use Rattle.refine.proofs.Fold.{all-at}
 use Rattle.cells.specs.Fold.{foldBelow, allBelow, searchFrom}
@@ -139,3 +140,23 @@ unfolding tryList
 missed-same t mode asking alert list e = byBool (eqb mode 0)
     (λ y. rw y (any-same t asking alert list (let q : (tryAny t asking alert list) .served ≡ false = rw y at e in q)))
     (λ n. rw n (all-same-tables t asking alert list (let q : (tryAll t asking alert list) .served ≡ false = rw n at e in q)))
+
+-- an index is at most the list's length
+lt-le : {a b : ℕ} → a < b → a ≤ b
+lt-le l = omega arith
+
+alert-index : (t : List ℕ) (asking alert n : ℕ) → (byAlert t asking alert n) .index ≤ n
+unfolding byAlert takeOne
+alert-index t asking alert n = byBool (signaledAt t asking alert) (λ y. rw y (le-refl n)) (λ m. rw m (omega arith))
+
+any-index : (t : List ℕ) (asking alert : ℕ) (list : List ℕ) → (tryAny t asking alert list) .index ≤ length list
+unfolding tryAny takeOne
+any-index t asking alert list = byBool (ltb (lookAny t asking list) (length list)) (λ y. rw y (lt-le (ltb-true (lookAny t asking list) (length list) y))) (λ n. rw n (alert-index t asking alert (length list)))
+
+all-index : (t : List ℕ) (asking alert : ℕ) (list : List ℕ) → (tryAll t asking alert list) .index ≤ length list
+unfolding tryAll
+all-index t asking alert list = byBool (lookAll t asking list) (λ y. rw y (omega arith)) (λ n. rw n (alert-index t asking alert (length list)))
+
+pub index-le : (t : List ℕ) (mode asking alert : ℕ) (list : List ℕ) → (tryList t mode asking alert list) .index ≤ length list
+unfolding tryList
+index-le t mode asking alert list = byBool (eqb mode 0) (λ y. rw y (any-index t asking alert list)) (λ n. rw n (all-index t asking alert list))

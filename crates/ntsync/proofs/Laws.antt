@@ -1,5 +1,5 @@
 -- From cells to the meaning: what a call leaves by the definitions of `cells` is its outcome.
-use Prim.Native.Nat.{ℕ, suc}
+use Prim.Native.Nat.{ℕ, suc, _<_, _≤_}
 use mathlib.Core.Path.{_≡_, refl, sym, ap, _∙_}
 use mathlib.Core.Bool.{Bool, true, false, not, cond}
 use mathlib.Core.List.{List, [], _∷_}
@@ -7,12 +7,14 @@ use native.Mathlib.Omega.{arith}
 use lib.ListN.{length}
 use borrow.Author.Tests.{eq-eqb, ne-eqb}
 use Rattle.model.specs.Calls.{Operation, create, Kind, lend, badNew}
+use Rattle.model.specs.Sizes.{maxListed, word32}
 use Rattle.model.specs.Layout.{tableLength}
+use Rattle.waits.proofs.Laws.{wait-index}
 use Rattle.model.specs.Steps.{Outcome, tableStep, makeTables}
 use Rattle.model.proofs.Logic.{not-true, not-false, not-twice}
 use Rattle.cells.specs.Objects.{Fields}
 use Rattle.cells.specs.Validity.{validCells}
-use Rattle.cells.specs.Calls.{Result, answered, refusedWith, createCells, newFields, onCells, callCells, guarded, madeCells, makeCells}
+use Rattle.cells.specs.Calls.{Result, answered, refusedWith, createCells, newFields, onCells, callCells, guarded, madeCells, makeCells, waitOnCells}
 use Rattle.refine.proofs.Calls.{told}
 use Rattle.refine.proofs.Validity.{Words, valid-length}
 use Rattle.refine.proofs.Refinement.{call-means, make-means}
@@ -66,3 +68,7 @@ made t l = untold (makeTables t) ((let z = eq-eqb (length t) tableLength l in rw
 pub not-made : (t : List ℕ) → (length t ≡ tableLength → ⊥) → leaving 9 0 0 t ≡ makeTables t
 unfolding makeCells
 not-made t n = untold (makeTables t) ((let z = ne-eqb (length t) tableLength n in rw z) ∙ make-means t)
+
+-- a wait's index is a 32-bit number
+pub index-small : (t : List ℕ) (mode : ℕ) (list : List ℕ) (asking flags pad alert timeout time : ℕ) (q : Result) → q ≡ waitOnCells mode list asking flags pad alert timeout time t (lend [] []) → q .first < word32
+index-small t mode list asking flags pad alert timeout time q e = let l : q .first ≤ maxListed = rw e (wait-index t mode list asking flags pad alert timeout time (lend [] [])) in omega arith

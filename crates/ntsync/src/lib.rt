@@ -3,9 +3,10 @@
 ghost use mathlib.Core.Path.{_≡_};
 ghost use mathlib.Core.List.{[]};
 ghost use mathlib.Core.Bool.{not};
-ghost use Rattle.model.specs.Calls.{create, close, resetEvent, read, cancel, aSemaphore, aMutex, anEvent, lend};
+ghost use Rattle.model.specs.Calls.{create, close, resetEvent, read, cancel, wait, aSemaphore, aMutex, anEvent, lend};
 ghost use Rattle.model.specs.Steps.{tableStep, makeTables};
-ghost use Rattle.cells.specs.Calls.{answered, createCells, guarded};
+ghost use Rattle.model.specs.Waits.{any, all};
+ghost use Rattle.cells.specs.Calls.{answered, createCells, waitOnCells, guarded};
 ghost use Rattle.kinds.specs.Values.{cellsOf};
 ghost use Rattle.ntsync.specs.Contract.{asked, leaving};
 use calls::Numbered;
@@ -47,6 +48,13 @@ pub struct Changed {
     pub answer: u32,
     pub previous: u32,
     pub woken: u32,
+}
+
+#[repr(C)]
+pub struct Waited {
+    pub answer: u32,
+    pub index: u32,
+    pub ticket: u64,
 }
 
 const CORRUPT: u32 = 9;
@@ -209,4 +217,76 @@ pub fn cancel(tables: &mut [u64], ticket: u64) -> u32
         return CORRUPT;
     }
     calls::cancel(tables, ticket)
+}
+
+// ---- waiting
+
+fn wait(
+    tables: &mut [u64],
+    mode: u64,
+    list: &[u32],
+    owner: u32,
+    alert: u32,
+    flags: u32,
+    pad: u32,
+    timeout: u64,
+    time: u64,
+) -> Waited
+    ensures { λ r. ⌜ answered (r .answer) (r .index) (r .ticket) (now (tables .exit)) (lend [] [])
+        ≡ guarded (now (tables .entry)) (waitOnCells mode (now (list .entry)) owner flags pad alert timeout time (now (tables .entry)) (lend [] [])) ⌝ }
+{
+    let corrupt = !validity::valid(tables);
+    if corrupt {
+        return Waited {
+            answer: CORRUPT,
+            index: 0,
+            ticket: 0,
+        };
+    }
+    let r = waits::wait(
+        tables,
+        mode,
+        list,
+        owner as u64,
+        flags as u64,
+        pad as u64,
+        alert as u64,
+        timeout,
+        time,
+    );
+    Waited {
+        answer: r.answer,
+        index: r.index as u32,
+        ticket: r.ticket,
+    }
+}
+
+pub fn wait_any(
+    tables: &mut [u64],
+    list: &[u32],
+    owner: u32,
+    alert: u32,
+    flags: u32,
+    pad: u32,
+    timeout: u64,
+    time: u64,
+) -> Waited
+    ensures { λ r. ⌜ leaving (r .answer) (r .index) (r .ticket) (now (tables .exit)) ≡ tableStep (now (tables .entry)) (asked (wait any (now (list .entry)) owner flags pad alert timeout time)) ⌝ }
+{
+    wait(tables, 0, list, owner, alert, flags, pad, timeout, time)
+}
+
+pub fn wait_all(
+    tables: &mut [u64],
+    list: &[u32],
+    owner: u32,
+    alert: u32,
+    flags: u32,
+    pad: u32,
+    timeout: u64,
+    time: u64,
+) -> Waited
+    ensures { λ r. ⌜ leaving (r .answer) (r .index) (r .ticket) (now (tables .exit)) ≡ tableStep (now (tables .entry)) (asked (wait all (now (list .entry)) owner flags pad alert timeout time)) ⌝ }
+{
+    wait(tables, 1, list, owner, alert, flags, pad, timeout, time)
 }

@@ -4,11 +4,12 @@ use mathlib.Core.Path.{_≡_, refl, sym, ap, _∙_}
 use mathlib.Core.Bool.{Bool, true, false, not, _&&_, _||_, cond, or-assoc, or-false}
 use mathlib.Core.List.{List, [], _∷_}
 use native.Mathlib.Omega.{arith}
+use native.Mathlib.Nat.{le-trans}
 use lib.ListN.{length, getD, set, take}
 use lib.Seq.{take-suc, take-suc-set}
 use native.Mathlib.Numerals.{add-one}
 use lib.Dec.{eqb, ltb, leb}
-use borrow.Author.Tests.{lt-ltb, le-ltb, le-leb, lt-leb, eq-eqb, ne-eqb, ltb-true}
+use borrow.Author.Tests.{lt-ltb, le-ltb, le-leb, lt-leb, eq-eqb, ne-eqb, ltb-true, ltb-false}
 use Rattle.model.specs.Sizes.{waitPlaces, maxListed, word64, never}
 use Rattle.model.specs.Basics.{anyOf}
 use Rattle.model.specs.Calls.{Lent, timeUp}
@@ -16,7 +17,7 @@ use Rattle.model.proofs.Logic.{byBool, clash, not-true, not-false, not-twice, f
 use Rattle.cells.specs.Waits.{nextTicket, has}
 use Rattle.cells.specs.Validity.{occupiedAt, eventAt, tooFew, occupiedList, repeatedList, belowMarks, marks}
 use Rattle.cells.specs.Attempt.{Tried, tryList}
-use Rattle.attempt.proofs.Laws.{missed-same}
+use Rattle.attempt.proofs.Laws.{missed-same, index-le}
 use Rattle.cells.specs.Calls.{Result, answered, refusedWith, badWait, ticketPlace, queueCells, laterCells, actCells, waitOnCells}
 use Rattle.refine.proofs.Fold.{all-at, all-intro}
 use Rattle.validity.proofs.Laws.{occupied-flagged}
@@ -102,3 +103,17 @@ module _ (t : List ℕ) (mode : ℕ) (list : List ℕ) (asking flags alert timeo
 -- one more number copied
 pub copied : (wide list : List ℕ) (i : ℕ) → take i wide ≡ take i list → i < length wide → i < length list → take (i + 1) (set wide i (getD list i 0)) ≡ take (i + 1) list
 copied wide list i e l m = rw (add-one, take-suc-set wide i (getD list i 0) l, take-suc list i 0 m, e)
+
+-- the index of a wait's answer stays within a list
+later-index : (t : List ℕ) (mode : ℕ) (list : List ℕ) (asking flags alert timeout time : ℕ) (l : Lent) → (laterCells mode list asking flags alert timeout time t l) .first ≡ 0
+unfolding laterCells
+later-index t mode list asking flags alert timeout time l = byBool (timeUp timeout time) (λ y. rw y) (λ n. rw n (byBool (ltb (ticketPlace t 0) waitPlaces) (λ y. rw y (byBool (leb word64 (nextTicket t + 1)) (λ y. rw y) (λ m. rw m))) (λ m. rw m)))
+
+short-list : (t : List ℕ) (mode : ℕ) (list : List ℕ) (asking flags pad alert : ℕ) → badWait mode list asking flags pad alert t ≡ false → length list ≤ maxListed
+unfolding badWait
+short-list t mode list asking flags pad alert n = ltb-false maxListed (length list) (fault-free _ n 1)
+
+pub wait-index : (t : List ℕ) (mode : ℕ) (list : List ℕ) (asking flags pad alert timeout time : ℕ) (l : Lent) → (waitOnCells mode list asking flags pad alert timeout time t l) .first ≤ maxListed
+unfolding waitOnCells
+wait-index t mode list asking flags pad alert timeout time l = byBool (badWait mode list asking flags pad alert t) (λ y. rw y (omega arith))
+    (λ n. rw n (byBool ((tryList t mode asking alert list) .served) (λ y. rw y (le-trans (index-le t mode asking alert list) (short-list t mode list asking flags pad alert n))) (λ m. rw (m, later-index t mode list asking flags alert timeout time l) (omega arith))))
