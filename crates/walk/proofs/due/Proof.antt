@@ -1,0 +1,36 @@
+use Rattle.walk.proofs.Laws.{due-is}
+use native.Mathlib.Omega.{arith}
+use borrow.Author.Needs.{needs}
+use Rattle.walk.proofs.due.Statement.{statement}
+use Rattle.walk.proofs.due.Tie as tie
+use Rattle.walk.proofs.due.Reads as reads
+use Rattle.walk.proofs.due.Lts as lts
+use Rattle.tables.proofs.clock_at.Reads as clock-at-reads
+use Rattle.tables.proofs.ticket_at.Reads as ticket-at-reads
+use Rattle.tables.proofs.timeout_at.Reads as timeout-at-reads
+use Rattle.walk.proofs.time_up.Reads as time-up-reads
+
+-- src/lib.rt:58:9
+ticket-at-requires : tie.Need-ticket-at-requires
+ticket-at-requires c κs = search needs
+
+-- src/lib.rt:59:9
+clock-at-requires : tie.Need-clock-at-requires
+clock-at-requires c κs = search needs
+
+-- src/lib.rt:60:9
+timeout-at-requires : tie.Need-timeout-at-requires
+timeout-at-requires c κs = search needs
+
+-- src/lib.rt:61:9
+time-up-requires : tie.Need-time-up-requires
+time-up-requires c κs = search needs
+
+-- src/lib.rt:54:1
+returns : tie.Need-returns
+returns c = let a = c .before .before .before .before .before .args in due-is (a .t .now) (a .clock) (a .time) (a .p) (c .before .before .before .ticket-at .ensures) (c .before .before .clock-at .ensures) (c .before .timeout-at .ensures) (c .time-up .ensures)
+
+pub due-spec : {M : Type 1} → statement M
+due-spec =
+    tie.close
+    (tie.spec ticket-at-requires clock-at-requires timeout-at-requires time-up-requires returns)
