@@ -3,15 +3,26 @@
 ghost use mathlib.Core.Path.{_≡_};
 ghost use mathlib.Core.Bool.{cond};
 ghost use lib.ListN.{length};
+ghost use Rattle.model.specs.Calls.{timeUp};
 ghost use Rattle.model.specs.Layout.{tableLength};
 ghost use Rattle.cells.specs.Attempt.{signaledAt, acquireAt, abandonedAt, lookAny, lookAll, acquireFirst, abandonedFirst, takeOne, byAlert, tryAny, tryAll, tryList};
 ghost use Rattle.attempt.specs.Values.{triedBy};
+
+const NEVER: u64 = 18446744073709551615;
 
 // Whether the wait was served, then its answer and index.
 pub struct Attempted {
     pub served: bool,
     pub answer: u32,
     pub index: u64,
+}
+
+// ---- time
+
+pub fn time_up(timeout: u64, time: u64) -> bool
+    ensures { λ r. ⌜ r ≡ timeUp timeout time ⌝ }
+{
+    (timeout <= time) & !(timeout == NEVER)
 }
 
 // ---- one object, by handle

@@ -4,23 +4,18 @@ ghost use mathlib.Core.List.{[]};
 ghost use Prim.Native.Nat.{_≤_};
 ghost use lib.ListN.{length, take};
 ghost use Rattle.model.specs.Sizes.{maxListed};
-ghost use Rattle.model.specs.Calls.{timeUp, lend};
+ghost use Rattle.model.specs.Calls.{lend};
 ghost use Rattle.model.specs.Layout.{tableLength};
 ghost use Rattle.cells.specs.Calls.{badWait, laterCells, actCells, waitOnCells};
 ghost use Rattle.waits.specs.Values.{waitedBy};
 
-const NEVER: u64 = 18446744073709551615;
+// A next ticket that is never given.
+const SPENT: u64 = 18446744073709551615;
 
 pub struct Waited {
     pub answer: u32,
     pub index: u64,
     pub ticket: u64,
-}
-
-fn time_up(timeout: u64, time: u64) -> bool
-    ensures { λ r. ⌜ r ≡ timeUp timeout time ⌝ }
-{
-    (timeout <= time) & !(timeout == NEVER)
 }
 
 fn bad_wait(
@@ -68,7 +63,7 @@ fn later(
     requires { ⌜ (length (now t) ≡ tableLength) × (length (now list) ≤ maxListed) ⌝ }
     ensures { λ r. ⌜ waitedBy r (now (t .exit)) ≡ laterCells mode (now (list .entry)) asking flags alert timeout time (now (t .entry)) (lend [] []) ⌝ }
 {
-    let up = time_up(timeout, time);
+    let up = attempt::time_up(timeout, time);
     if up {
         return Waited {
             answer: 5,
@@ -85,7 +80,7 @@ fn later(
         };
     }
     let ticket = tables::next_ticket(t);
-    if ticket == NEVER {
+    if ticket == SPENT {
         return Waited {
             answer: 8,
             index: 0,

@@ -3,12 +3,9 @@ ghost use mathlib.Core.Path.{_≡_};
 ghost use Prim.Native.Nat.{_≤_, _<_};
 ghost use lib.ListN.{length};
 ghost use Rattle.model.specs.Sizes.{waitPlaces, wakeLength};
-ghost use Rattle.model.specs.Calls.{timeUp};
 ghost use Rattle.model.specs.Layout.{tableLength};
-ghost use Rattle.cells.specs.Waits.{better, lowest, nextWait, putRecord};
-ghost use Rattle.cells.specs.Walk.{dueAt};
-
-const NEVER: u64 = 18446744073709551615;
+ghost use Rattle.cells.specs.Waits.{better, lowest, nextWait, putRecord, clearWait};
+ghost use Rattle.cells.specs.Walk.{dueAt, walked, endCells};
 
 // Place i instead of the best so far, where it passes and its ticket is below the best one's; WAIT_PLACES is none.
 fn better(t: &[u64], passes: bool, best: usize, i: usize) -> usize
@@ -44,12 +41,6 @@ pub fn next_wait(t: &[u64], last: u64) -> usize
     best
 }
 
-fn time_up(timeout: u64, time: u64) -> bool
-    ensures { λ r. ⌜ r ≡ timeUp timeout time ⌝ }
-{
-    (timeout <= time) & !(timeout == NEVER)
-}
-
 // A queued wait on this clock whose time is up.
 fn due(t: &[u64], clock: u64, time: u64, p: usize) -> bool
     requires { ⌜ (p < waitPlaces) × (length (now t) ≡ tableLength) ⌝ }
@@ -58,7 +49,7 @@ fn due(t: &[u64], clock: u64, time: u64, p: usize) -> bool
     let ticket = tables::ticket_at(t, p);
     let own = tables::clock_at(t, p);
     let timeout = tables::timeout_at(t, p);
-    let up = time_up(timeout, time);
+    let up = attempt::time_up(timeout, time);
     (0 < ticket) & ((own == clock) & up)
 }
 
@@ -86,4 +77,31 @@ pub fn put_record(wake: &mut [u64], k: usize, ticket: u64, answer: u64, index: u
     wake[at] = ticket;
     wake[at + 1] = answer;
     wake[at + 2] = index;
+}
+
+// The wait at place p leaves the queue and is told in record k.
+fn leave(t: &mut [u64], wake: &mut [u64], p: usize, k: usize, ticket: u64, answer: u64, index: u64)
+    requires { ⌜ (p < waitPlaces) × (k < waitPlaces) × (length (now t) ≡ tableLength) × (wakeLength ≤ length (now wake)) ⌝ }
+    ensures { λ _. ⌜ (now (t .exit) ≡ clearWait (now (t .entry)) p) × (now (wake .exit) ≡ putRecord (now (wake .entry)) k ticket answer index) ⌝ }
+{
+    put_record(wake, k, ticket, answer, index);
+    tables::clear_wait(t, p);
+}
+
+// Every wait on this clock whose time is up ends with 5, lowest ticket first; how many.
+pub fn end_due(t: &mut [u64], wake: &mut [u64], clock: u64, time: u64) -> usize
+    requires { ⌜ (length (now t) ≡ tableLength) × (wakeLength ≤ length (now wake)) ⌝ }
+    ensures { λ r. ⌜ walked r (now (t .exit)) (now (wake .exit)) ≡ endCells waitPlaces clock time (walked 0 (now (t .entry)) (now (wake .entry))) ⌝ }
+{
+    let mut k: usize = 0;
+    while k < tables::WAIT_PLACES {
+        let p = next_due(t, clock, time);
+        if tables::WAIT_PLACES <= p {
+            return k;
+        }
+        let ticket = tables::ticket_at(t, p);
+        leave(t, wake, p, k, ticket, 5, 0);
+        k += 1;
+    }
+    k
 }

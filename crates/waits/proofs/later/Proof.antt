@@ -11,7 +11,7 @@ use Rattle.waits.proofs.later.Lts as lts
 use Rattle.tables.proofs.next_ticket.Reads as next-ticket-reads
 use Rattle.tables.proofs.queue.Reads as queue-reads
 use Rattle.tables.proofs.ticket_place.Reads as ticket-place-reads
-use Rattle.waits.proofs.time_up.Reads as time-up-reads
+use Rattle.attempt.proofs.time_up.Reads as time-up-reads
 
 -- src/lib.rt:71:9
 time-up-requires : tie.Need-time-up-requires

@@ -8,7 +8,7 @@ use Rattle.walk.proofs.due.Lts as lts
 use Rattle.tables.proofs.clock_at.Reads as clock-at-reads
 use Rattle.tables.proofs.ticket_at.Reads as ticket-at-reads
 use Rattle.tables.proofs.timeout_at.Reads as timeout-at-reads
-use Rattle.walk.proofs.time_up.Reads as time-up-reads
+use Rattle.attempt.proofs.time_up.Reads as time-up-reads
 
 -- src/lib.rt:58:9
 ticket-at-requires : tie.Need-ticket-at-requires
