@@ -18,15 +18,15 @@ pub const WAIT_PLACES: usize = 32;
 
 pub const MAX_LISTED: usize = 64;
 
-pub const TABLE_LENGTH: usize = 2785;
+pub const TABLE_LENGTH: usize = WAITS_BASE + WAIT_SIZE * WAIT_PLACES;
 
 const OBJECT_SIZE: usize = 4;
 
 const HEADER_SIZE: usize = 7;
 
-const WAIT_SIZE: usize = 71;
+const WAIT_SIZE: usize = HEADER_SIZE + MAX_LISTED;
 
-const WAITS_BASE: usize = 513;
+const WAITS_BASE: usize = 1 + OBJECT_SIZE * OBJECT_PLACES;
 
 // ---- objects, by place and by handle
 

@@ -1,0 +1,117 @@
+// Cells by the numbers of docs/LAYOUT.md, and cells compared, copied and written. Only the program knows these numbers a
+// second time: it writes into the tables what no call can.
+ghost use mathlib.Core.Path.{_≡_};
+ghost use mathlib.Core.Bool.{true};
+use crate::print;
+
+pub const TABLE_LENGTH: usize = 2785;
+
+// Lent by length, so that no caller has to prove that a call leaves it.
+pub type Cells = [u64; TABLE_LENGTH];
+
+// One cell more than the tables have, so that a slice that is too long can be lent too.
+pub const SPACE_LENGTH: usize = 2786;
+
+// The cells of an object place.
+pub const KIND: usize = 0;
+
+pub const COUNT: usize = 1;
+
+pub const OWNER: usize = 2;
+
+pub const ATTRIBUTE: usize = 3;
+
+// The cells of a wait place.
+pub const WAITS: usize = 513;
+
+pub const WAIT_SIZE: usize = 71;
+
+pub const TICKET: usize = 0;
+
+pub const MODE: usize = 1;
+
+pub const WAIT_OWNER: usize = 2;
+
+pub const CLOCK: usize = 3;
+
+pub const TIMEOUT: usize = 4;
+
+pub const LISTED: usize = 5;
+
+pub const ALERT: usize = 6;
+
+pub const LIST: usize = 7;
+
+pub const SECOND_LISTED: usize = 8;
+
+pub const THIRD_LISTED: usize = 9;
+
+pub const LAST_LISTED: usize = 70;
+
+pub fn same(a: &[u64], b: &[u64]) -> bool
+    ensures { λ r. ⌜ (r ≡ true → now (a .entry) ≡ now (b .entry)) × (now (a .entry) ≡ now (b .entry) → r ≡ true) ⌝ }
+{
+    if a.len() != b.len() {
+        return false;
+    }
+    let mut i = 0;
+    while i < a.len() {
+        if a[i] != b[i] {
+            return false;
+        }
+        i += 1;
+    }
+    true
+}
+
+// A cell past the end is not written, so that no caller has to prove a length; a line of `stdout` would show it.
+pub fn put(t: &mut [u64], at: usize, value: u64) {
+    if at < t.len() {
+        t[at] = value;
+    }
+}
+
+pub fn copy(from: &[u64], to: &mut [u64]) {
+    let mut i = 0;
+    while i < from.len() {
+        put(to, i, from[i]);
+        i += 1;
+    }
+}
+
+// Ends a line with whether a cell changed.
+pub fn verdict(t: &[u64], before: &[u64]) {
+    if same(t, before) {
+        print::text(b" unaltered\n");
+    } else {
+        print::text(b" ALTERED\n");
+    }
+}
+
+pub fn compared(t: &Cells, before: &Cells) {
+    verdict(t, before);
+}
+
+// Writes a wait from the first cell of its place on: ticket, mode, owner, clock, timeout, count, alert, list.
+pub fn put_wait(t: &mut [u64], at: usize, row: &[u64]) {
+    if at > TABLE_LENGTH {
+        return;
+    }
+    if row.len() > WAIT_SIZE {
+        return;
+    }
+    let mut i = 0;
+    while i < row.len() {
+        put(t, at + i, row[i]);
+        i += 1;
+    }
+}
+
+// Lists the handle in the cells from `at` up to `end`.
+pub fn put_list(t: &mut [u64], at: usize, end: usize, handle: u64) {
+    let mut i = at;
+    while i < end {
+        put(t, i, handle);
+        i += 1;
+    }
+}

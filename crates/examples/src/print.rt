@@ -1,0 +1,57 @@
+// Text and numbers to standard output.
+use libc::STDOUT_FILENO;
+
+pub fn text(s: &[u8]) {
+    io::write_all(STDOUT_FILENO, s);
+}
+
+// A space and the number.
+pub fn number(n: u64) {
+    text(b" ");
+    io::print_decimal(STDOUT_FILENO, n);
+}
+
+pub fn one(a: u32) {
+    number(a as u64);
+}
+
+pub fn two(a: u32, b: u32) {
+    one(a);
+    one(b);
+}
+
+pub fn three(a: u32, b: u32, c: u32) {
+    two(a, b);
+    one(c);
+}
+
+// A call and its argument.
+pub fn asked(call: &[u8], argument: u64) {
+    text(call);
+    number(argument);
+    text(b":");
+}
+
+pub fn asked_two(call: &[u8], first: u32, word: &[u8], second: u32) {
+    text(call);
+    one(first);
+    asked(word, second as u64);
+}
+
+pub fn end() {
+    text(b"\n");
+}
+
+pub fn heading(s: &[u8]) {
+    text(b"-- ");
+    text(s);
+    end();
+}
+
+pub fn yes(is_so: bool) {
+    if is_so {
+        text(b" yes\n");
+    } else {
+        text(b" NO\n");
+    }
+}
