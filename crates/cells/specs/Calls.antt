@@ -171,12 +171,11 @@ onCells (cancel ticket) t l = cancelCells ticket t l
 onCells snapshot t l = snapshotCells t l
 
 -- and on any cells: corrupt tables first
-unfoldable pub callCells : Call → List ℕ → Result
-callCells c t = cond (validCells t) (onCells (c .operation) t (c .lent)) (refusedWith 9 t (c .lent))
+abbrev pub guarded : Lent → List ℕ → Result → Result
+guarded l t r = cond (validCells t) r (refusedWith 9 t l)
 
--- a call that is lent nothing but the tables
-abbrev pub guarded : List ℕ → Result → Result
-guarded t r = cond (validCells t) r (refusedWith 9 t (record { wake = []; buffer = [] }))
+unfoldable pub callCells : Call → List ℕ → Result
+callCells c t = guarded (c .lent) t (onCells (c .operation) t (c .lent))
 
 -- MAKING looks at the length alone
 unfoldable pub madeCells : List ℕ → List ℕ

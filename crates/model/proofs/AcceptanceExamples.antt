@@ -10,7 +10,7 @@ use Rattle.model.specs.Calls.{aSemaphore, aMutex, anEvent, post, unlock,
 use Rattle.model.specs.Snapshot.{ascii, digitsUpTo, line, objectText, objectsText, objectCount, waitText, queueFrom, snapshotText}
 use Rattle.model.specs.Layout.{tableLength, objectCells, waitCells, encode, view, distinctTickets, sameCells, validTables}
 use Rattle.model.specs.Sizes.{objectPlaces, mutexCeiling, never, wakeLength}
-use Rattle.model.specs.Steps.{Outcome, firstRefusal, records, libraryStep, referenceStep, run, initialTables}
+use Rattle.model.specs.Steps.{Outcome, firstRefusal, records, libraryStep, referenceStep, run}
 use Rattle.model.specs.Waits.{Mode, any, all, State, initial, lowestSignaled, allSignaled, look, attempt, acquireEach, anyAbandoned, dequeue, oldest, concernedBy, serve, tryToServe, walkQueue, searchQueue}
 
 -- what the caller hears: the answer, the two numbers, the reports as (ticket, answer, index)
@@ -137,7 +137,7 @@ unfolding lowestSignaled allSignaled look attempt acquireEach anyAbandoned deque
 example-snapshot = refl
 
 -- One damaged cell of newly made tables, and one cell too few or too many: each is corrupt. Newly made tables are not.
-pub examples-corrupt : map validTables (initialTables ∷ set initialTables 0 0 ∷ set initialTables 2 1 ∷ set initialTables (tableLength - 1) 1 ∷ take (tableLength - 1) initialTables ∷ (initialTables ++ (0 ∷ [])) ∷ [])
+pub examples-corrupt : map validTables (let t = encode initial in t ∷ set t 0 0 ∷ set t 2 1 ∷ set t (tableLength - 1) 1 ∷ take (tableLength - 1) t ∷ (t ++ (0 ∷ [])) ∷ [])
     ≡ true ∷ false ∷ false ∷ false ∷ false ∷ false ∷ []
 unfolding validTables sameCells view encode tabulate joined objectCells waitCells allOf oldest distinctTickets
 examples-corrupt = refl

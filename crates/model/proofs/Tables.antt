@@ -4,17 +4,17 @@ use mathlib.Core.Bool.{Bool, true, false, not, _&&_, and-true}
 use mathlib.Core.List.{List, [], _∷_, map}
 use mathlib.Core.Option.{Option, none, some}
 use mathlib.Core.Logic.{_⊎_, inl, inr, ⊎-elim, _↔_}
-use Prim.Native.Nat.{ℕ, suc, _≤_, _<_}
+use Prim.Native.Nat.{ℕ, suc, _+_, _*_, _≤_, _<_}
 use native.Mathlib.Omega.{arith}
-use lib.ListN.{length, getD}
+use lib.ListN.{length, getD, replicate}
 use lib.Dec.{eqb, ltb, leb}
 use borrow.Author.Tests.{leb-false, eqb-false, le-ltb, lt-leb, eq-eqb, ne-eqb}
 use Rattle.model.specs.Basics.{corrupt, maybe, anyOf, member, joined, All}
 use Rattle.model.specs.Calls.{wait, cancel, Lent, lend, Call, least, refusal, waitFaults, timeUp, newWait, mustQueue, waitsFull, refusals, admits, change, Fits}
-use Rattle.model.specs.Layout.{objectSize, tableLength, objectCells, waitCells, encode, inObject, view, validTables}
-use Rattle.model.specs.Sizes.{objectPlaces, word64}
+use Rattle.model.specs.Layout.{objectSize, waitSize, tableLength, objectCells, waitCells, encode, inObject, view, validTables}
+use Rattle.model.specs.Sizes.{objectPlaces, waitPlaces, word64}
 use Rattle.model.specs.Objects.{Object}
-use Rattle.model.specs.Steps.{Outcome, unaltered, conditions, firstRefusal, libraryStep, referenceStep, onTables, tableStep, run, initialTables, makeTables, refusalNumbers, FirstIs, Quiet, touched}
+use Rattle.model.specs.Steps.{Outcome, unaltered, conditions, firstRefusal, libraryStep, referenceStep, onTables, tableStep, run, makeTables, refusalNumbers, FirstIs, Quiet, touched}
 use Rattle.model.specs.Waits.{Mode, Wait, free, waiting, State, initial, objectAt, Grant, attempt, servable, anyAbandoned, servedAnswer, wakeByWalk, wakeBySearch}
 use Rattle.model.proofs.History.{Settled, step-same, step-settled, initial-settled}
 use Rattle.model.proofs.Waking.{each}
@@ -148,7 +148,8 @@ settled-run s [] fit t = refl
 settled-run s (c ∷ cs) fit t = rw (settled-step s c (fit .0) t) (ap (λ (os : List (Outcome (List ℕ))). onTables (referenceStep s c) ∷ os)
     (settled-run ((referenceStep s c) .held) cs (fit .1) (step-settled s c (fit .0) t)))
 
-pub initial-tables : encode initial ≡ initialTables
+-- newly made tables, cell by cell
+pub initial-tables : encode initial ≡ 1 ∷ replicate (objectSize * objectPlaces + waitSize * waitPlaces) 0
 unfolding encode joined objectCells waitCells
 initial-tables = refl
 
@@ -171,7 +172,7 @@ pub run-uncorrupted : (s : State) (cs : List Call) → All Fits cs → Settled s
 run-uncorrupted = run-all (λ o. o .answer ≡ 9 → ⊥) (λ s c fit t. reference-uncorrupted s c)
 
 -- ROWS OF HISTORIES
-make-exactly : (t : List ℕ) → length t ≡ tableLength → makeTables t ≡ unaltered 0 (lend [] []) initialTables
+make-exactly : (t : List ℕ) → length t ≡ tableLength → makeTables t ≡ unaltered 0 (lend [] []) (encode initial)
 unfolding makeTables
 make-exactly t e = rw (eq-eqb (length t) tableLength e)
 
@@ -179,7 +180,7 @@ make-short : (t : List ℕ) → (length t ≡ tableLength → ⊥) → makeTable
 unfolding makeTables
 make-short t n = rw (ne-eqb (length t) tableLength n)
 
-pub make-either : (t : List ℕ) → (length t ≡ tableLength → makeTables t ≡ unaltered 0 (lend [] []) initialTables)
+pub make-either : (t : List ℕ) → (length t ≡ tableLength → makeTables t ≡ unaltered 0 (lend [] []) (encode initial))
     × ((length t ≡ tableLength → ⊥) → makeTables t ≡ unaltered 9 (lend [] []) t)
 make-either t = (make-exactly t, make-short t)
 
@@ -195,7 +196,7 @@ encoded-long s t = encode-length s (t .valid .places) (t .valid .slots)
 pub settled-rows : (s : State) (es : List (Option Call)) → All (λ e. maybe e (Unit {0}) Fits) es → Settled s → run tableEntry (encode s) es ≡ map onTables (run referenceEntry s es)
 unfolding run
 settled-rows s [] fit t = refl
-settled-rows s (none ∷ es) fit t = rw (make-exactly (encode s) (encoded-long s t), ← initial-tables) (ap (λ (os : List (Outcome (List ℕ))). unaltered 0 (lend [] []) (encode initial) ∷ os)
+settled-rows s (none ∷ es) fit t = rw (make-exactly (encode s) (encoded-long s t)) (ap (λ (os : List (Outcome (List ℕ))). unaltered 0 (lend [] []) (encode initial) ∷ os)
     (settled-rows initial es (fit .1) initial-settled))
 settled-rows s (some c ∷ es) fit t = rw (settled-step s c (fit .0) t) (ap (λ (os : List (Outcome (List ℕ))). onTables (referenceStep s c) ∷ os)
     (settled-rows ((referenceStep s c) .held) es (fit .1) (step-settled s c (fit .0) t)))

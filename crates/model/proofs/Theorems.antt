@@ -13,12 +13,12 @@ use Rattle.model.specs.Snapshot.{snapshotText}
 use Rattle.model.specs.Layout.{objectSize, tableLength, encode, inObject, view, validState, validTables}
 use Rattle.model.specs.Sizes.{objectPlaces, word64, snapshotBuffer, longestSnapshot}
 use Rattle.model.specs.ValidCells.{ValidCells}
-use Rattle.model.specs.Steps.{unaltered, conditions, referenceStep, onTables, tableStep, run, initialTables, makeTables, refusalNumbers, FirstIs, _isIn_, Quiet, takenBy, touched}
+use Rattle.model.specs.Steps.{unaltered, conditions, referenceStep, onTables, tableStep, run, makeTables, refusalNumbers, FirstIs, _isIn_, Quiet, takenBy, touched}
 use Rattle.model.specs.Waits.{Mode, Wait, free, waiting, State, initial, objectAt, servable}
 use Rattle.model.proofs.History.{initial-settled}
 use Rattle.model.proofs.SnapshotLength.{snapshot-longest, snapshot-fits, longest, longest-length, longest-valid}
 use Rattle.model.proofs.Validity.{test-valid, valid-test}
-use Rattle.model.proofs.Tables.{tables-low, tables-refused, tables-ended, tables-exactly, wait-queued, tables-objects, tables-stays, tables-free, settled-run, initial-tables, run-quiet, reference-uncorrupted, run-uncorrupted, make-either, settled-rows}
+use Rattle.model.proofs.Tables.{tables-low, tables-refused, tables-ended, tables-exactly, wait-queued, tables-objects, tables-stays, tables-free, settled-run, run-quiet, reference-uncorrupted, run-uncorrupted, make-either, settled-rows}
 use Rattle.model.proofs.Literal.{test-lines, lines-test}
 
 -- 0. DEMAND 1. For any cells and any call the answer is one of 0 to 12; at 1, 2, 3, 7, 8, 9, 10 and 12 every cell of the
@@ -32,8 +32,8 @@ demand-1 t c = (tables-low t c, tables-refused t c, tables-ended t c)
 -- 1. DEMAND 3. For every list of calls on newly made tables, refused ones included, every outcome (answer, numbers, reports
 -- in order, every cell of what is lent, every value held, place by place) equals the reference's. The only hypothesis is
 -- that each number fits its parameter's width.
-pub demand-3 : (cs : List Call) → All Fits cs → run tableStep initialTables cs ≡ map onTables (run referenceStep initial cs)
-demand-3 cs fit = rw (← initial-tables) (settled-run initial cs fit initial-settled)
+pub demand-3 : (cs : List Call) → All Fits cs → run tableStep (encode initial) cs ≡ map onTables (run referenceStep initial cs)
+demand-3 cs fit = settled-run initial cs fit initial-settled
 
 -- 1a. So it does from the tables of any valid state in which no queued wait could be served.
 pub demand-3-from : (s : State) → validState s ≡ true → Quiet s → (cs : List Call) → All Fits cs → run tableStep (encode s) cs ≡ map onTables (run referenceStep s cs)
@@ -41,17 +41,17 @@ demand-3-from s v q cs fit = settled-run s cs fit (record { valid = test-valid s
 
 -- 1b. Making, on tables of the right length and whatever their cells, gives newly made tables and answer 0; on others it is 9
 -- and nothing altered. A list of calls with makings (`none`) in it is a row of histories, each begun anew ("Making starts a new history").
-pub making : (t : List ℕ) → (length t ≡ tableLength → makeTables t ≡ unaltered 0 (lend [] []) initialTables)
+pub making : (t : List ℕ) → (length t ≡ tableLength → makeTables t ≡ unaltered 0 (lend [] []) (encode initial))
     × ((length t ≡ tableLength → ⊥) → makeTables t ≡ unaltered 9 (lend [] []) t)
 making t = make-either t
 
-pub rows-of-histories : (es : List (Option Call)) → All (λ e. maybe e (Unit {0}) Fits) es → run (λ t e. maybe e (makeTables t) (tableStep t)) initialTables es
+pub rows-of-histories : (es : List (Option Call)) → All (λ e. maybe e (Unit {0}) Fits) es → run (λ t e. maybe e (makeTables t) (tableStep t)) (encode initial) es
     ≡ map onTables (run (λ s e. maybe e (unaltered 0 (lend [] []) initial) (referenceStep s)) initial es)
-rows-of-histories es fit = rw (← initial-tables) (settled-rows initial es fit initial-settled)
+rows-of-histories es fit = settled-rows initial es fit initial-settled
 
 -- 2. After every call of a history no queued wait could be served.
-pub always-quiet : (cs : List Call) → All Fits cs → All (λ o. Quiet (view (o .held))) (run tableStep initialTables cs)
-always-quiet cs fit = rw (← initial-tables) (run-quiet initial cs fit initial-settled)
+pub always-quiet : (cs : List Call) → All Fits cs → All (λ o. Quiet (view (o .held))) (run tableStep (encode initial) cs)
+always-quiet cs fit = run-quiet initial cs fit initial-settled
 
 -- 3. THE FRAME, for any cells. An object that the call neither makes nor names nor takes, and that no wait reported served
 -- took, keeps all its values.
@@ -72,8 +72,8 @@ pub frame-free : (t : List ℕ) (c : Call) → Fits c → (p : ℕ) → getD ((v
 frame-free t c fit p = tables-free t c fit p
 
 -- 4. Answer 9 never occurs in a history, and the reference never gives it.
-pub never-9 : (cs : List Call) → All Fits cs → All (λ o. o .answer ≡ 9 → ⊥) (run tableStep initialTables cs)
-never-9 cs fit = rw (← initial-tables) (run-uncorrupted initial cs fit initial-settled)
+pub never-9 : (cs : List Call) → All Fits cs → All (λ o. o .answer ≡ 9 → ⊥) (run tableStep (encode initial) cs)
+never-9 cs fit = run-uncorrupted initial cs fit initial-settled
 
 pub reference-never-9 : (s : State) (c : Call) → (referenceStep s c) .answer ≡ 9 → ⊥
 reference-never-9 s c = reference-uncorrupted s c

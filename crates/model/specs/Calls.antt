@@ -7,7 +7,7 @@ use lib.Dec.{eqb, ltb, leb}
 use Rattle.model.specs.Sizes.{maxListed, word32, word64, never, wakeLength, snapshotBuffer}
 use Rattle.model.specs.Basics.{maybe, bit, anyOf, hasRepeat, All, Answer, number, done, invalid, notOwner, overflow, ownerDead, timedOut, interrupted, noRoom, ticketsSpent, busy, queued}
 use Rattle.model.specs.Objects.{Object, empty, semaphore, mutex, event, byKind, occupied, isEvent}
-use Rattle.model.specs.Waits.{Mode, any, all, Wait, WaitPlace, free, waiting, State, withObjects, withWaits, withNext, objectAt, putObject, Grant, attempt, servable, acquireEach, servedAnswer, dequeue, oldest, anyWaiting, concernedBy, Report, Woken, noneWoken, andThen}
+use Rattle.model.specs.Waits.{Mode, any, all, Wait, WaitPlace, free, waiting, State, withObjects, withWaits, objectAt, putObject, Grant, attempt, servable, acquireEach, servedAnswer, dequeue, oldest, anyWaiting, concernedBy, Report, Woken, noneWoken, andThen}
 use Rattle.model.specs.Snapshot.{snapshotText}
 
 pub data Kind : Type 0 where
@@ -40,6 +40,9 @@ lend wake buffer = record { wake = wake; buffer = buffer }
 pub record Call : Type 0 where
   pub operation : Operation
   pub lent : Lent
+
+abbrev pub asks : Operation → List ℕ → List ℕ → Call
+asks op wake buffer = record { operation = op; lent = lend wake buffer }
 
 -- The least lengths of the two. "Post, unlock, kill, set, pulse and expire take a lent wake list."
 unfoldable pub least : Operation → ℕ × ℕ
@@ -195,9 +198,8 @@ refusals (expire clock time) s = refusal invalid (ltb 1 clock) ∷ []
 refusals (cancel ticket) s = refusal invalid (not (anyWaiting (λ w. eqb (w .ticket) ticket) (s .waits))) ∷ []
 refusals snapshot s = []
 
--- THE CHANGE of a call that is not refused (01: the bare change, "the call's rule with its answer and numbers, without
--- its walk"): also its own reports, bytes for a lent buffer, the state, the handles of the objects whose change wakes,
--- and the event to clear after the waking (0: none).
+-- THE CHANGE of a call that is not refused (01: the bare change, "the call's rule with its answer and numbers, without its
+-- walk"), with its own reports, bytes for a buffer, the objects whose change wakes, and the event to clear at last (0: none).
 pub record Change : Type 0 where
   pub answer : ℕ
   pub first : ℕ
@@ -222,7 +224,7 @@ wakes r h k s = record { answer = r .answer; first = r .first; second = r .secon
 unfoldable pub admits : Wait → ℕ → State → Change
 admits w time s = maybe (attempt (s .objects) w)
     (cond (timeUp (w .timeout) time) (answers (number timedOut) 0 0 s)
-    (answers (number queued) 0 (s .next) (withNext (withWaits s (enqueue w (s .waits))) (suc (s .next)))))
+    (answers (number queued) 0 (s .next) record { objects = s .objects; waits = enqueue w (s .waits); next = suc (s .next) }))
     (λ g. answers (servedAnswer (s .objects) g) (g .index) 0 (withObjects s (acquireEach (w .owner) (s .objects) (g .handles))))
 
 -- "Expire .. ends with 5, index 0, by ticket, every wait on that clock with timeout at or before that time, but not 2^64-1."

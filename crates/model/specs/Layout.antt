@@ -1,5 +1,4 @@
--- The layout of the tables as one list of cells (docs/LAYOUT.md), the state that cells show, and valid tables (01: sound;
--- else damaged, here corrupt).
+-- The layout of the tables as one list of cells (docs/LAYOUT.md), the state they show, and when they are valid (01: sound).
 use mathlib.Core.Bool.{Bool, true, false, not, _&&_, _||_, cond}
 use mathlib.Core.List.{List, [], _∷_, _++_, map}
 use Prim.Native.Nat.{ℕ, _+_, _*_}
@@ -78,8 +77,8 @@ view t = record {
   next = getD t 0 0;
 }
 
--- VALIDITY, as a test; ValidCells.antt has document 01's list line by line, proved equivalent. "a semaphore's count is at most its maximum; a mutex's owner is 0 exactly when its count is 0; an abandoned
--- mutex has owner 0"; ranges
+-- VALIDITY, as a test; ValidCells.antt has document 01's list line by line, proved equivalent. "a semaphore's count is at
+-- most its maximum; a mutex's owner is 0 exactly when its count is 0; an abandoned mutex has owner 0"; ranges
 abbrev pub validObject : Object → Bool
 validObject empty = true
 validObject (semaphore c m) = allOf (leb c m ∷ ltb m word32 ∷ [])

@@ -1,19 +1,17 @@
--- A call's outcome: by the library on lent tables, as every public contract states it, and by the reference (01: the fresh
--- reckoning) on a state. Making, histories, and the notions in which the theorems speak.
+-- A call's outcome, by the library and by the reference (01: the fresh reckoning); making, histories, notions of the theorems.
 use mathlib.Core.Path.{_≡_}
 use mathlib.Core.Bool.{Bool, true, false, _||_, cond}
 use mathlib.Core.List.{List, [], _∷_, _++_}
 use mathlib.Core.Option.{Option, none, some}
 use mathlib.Core.Logic.{_⊎_}
-use Prim.Native.Nat.{ℕ, _+_, _*_}
-use lib.ListN.{length, getD, replicate}
+use Prim.Native.Nat.{ℕ}
+use lib.ListN.{length, getD}
 use lib.Dec.{eqb, ltb}
-use Rattle.model.specs.Sizes.{objectPlaces, waitPlaces}
 use Rattle.model.specs.Basics.{maybe, overwrite, number, done, corrupt, listShort}
 use Rattle.model.specs.Objects.{cleared}
-use Rattle.model.specs.Waits.{Mode, any, all, Wait, WaitPlace, free, waiting, State, objectAt, putObject, servable, Report, Woken, wakeByWalk, wakeBySearch}
+use Rattle.model.specs.Waits.{Mode, any, all, Wait, WaitPlace, free, waiting, State, initial, objectAt, putObject, servable, Report, Woken, wakeByWalk, wakeBySearch}
 use Rattle.model.specs.Calls.{Operation, create, close, resetEvent, read, signal, wait, expire, cancel, snapshot, Lent, lend, Call, least, Refusal, refusal, refusals, newWait, Change, change}
-use Rattle.model.specs.Layout.{objectSize, waitSize, tableLength, encode, view, validTables}
+use Rattle.model.specs.Layout.{tableLength, encode, view, validTables}
 
 -- "equal after each call in: the answer and all numbers with it; the reports (ticket, answer, index) in order ..; every
 -- cell of lists and buffers lent for writing; every value that the reckoning holds, place by place". What is held is a
@@ -66,17 +64,19 @@ onTables o = record { answer = o .answer; first = o .first; second = o .second; 
 unfoldable pub tableStep : List ℕ → Call → Outcome (List ℕ)
 tableStep t c = cond (validTables t) (onTables (libraryStep (view t) c)) (unaltered (number corrupt) (c .lent) t)
 
+-- WHAT A HOST SEES of it, fixed by every public contract: the answer, two numbers and the number of records; every cell of
+-- the wake list, of the buffer, of the tables.
+abbrev pub seen : Outcome (List ℕ) → List ℕ × List ℕ × List ℕ × List ℕ
+seen o = (o .answer ∷ o .first ∷ o .second ∷ length (o .reports) ∷ [], o .lent .wake, o .lent .buffer, o .held)
+
 -- HISTORIES. "a list of calls, each on the tables as the one before left them"
 unfoldable pub run : {Held Step : Type 0} → (Held → Step → Outcome Held) → Held → List Step → List (Outcome Held)
 run step h [] = []
 run step h (c ∷ cs) = let o = step h c in o ∷ run step (o .held) cs
 
 -- MAKING. "Making needs only the lengths; else 9." "Newly made tables are empty, next ticket 1."
-abbrev pub initialTables : List ℕ
-initialTables = 1 ∷ replicate (objectSize * objectPlaces + waitSize * waitPlaces) 0
-
 unfoldable pub makeTables : List ℕ → Outcome (List ℕ)
-makeTables t = cond (eqb (length t) tableLength) (unaltered (number done) (lend [] []) initialTables) (unaltered (number corrupt) (lend [] []) t)
+makeTables t = cond (eqb (length t) tableLength) (unaltered (number done) (lend [] []) (encode initial)) (unaltered (number corrupt) (lend [] []) t)
 
 -- NOTIONS OF THE THEOREMS. "Refusals are 1, 2, 3, 7, 8, 9, 10 and 12."
 abbrev pub refusalNumbers : List ℕ

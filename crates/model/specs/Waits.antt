@@ -42,9 +42,6 @@ withObjects s os = record { objects = os; waits = s .waits; next = s .next }
 abbrev pub withWaits : State → List WaitPlace → State
 withWaits s ws = record { objects = s .objects; waits = ws; next = s .next }
 
-abbrev pub withNext : State → ℕ → State
-withNext s n = record { objects = s .objects; waits = s .waits; next = n }
-
 -- Handle h is object place h - 1; "0 is never a handle", and a number that is no handle names an empty place.
 abbrev pub objectAt : List Object → ℕ → Object
 objectAt os zero = empty

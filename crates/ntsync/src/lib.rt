@@ -1,14 +1,13 @@
 // The public calls for Rattle callers (document 01). Nothing is required of a caller: any tables, any numbers. Each contract
 // is one equation with the meaning: the answer, the numbers with it and every cell of the tables.
 ghost use mathlib.Core.Path.{_≡_};
-ghost use mathlib.Core.List.{[]};
+ghost use mathlib.Core.List.{[], _∷_};
 ghost use mathlib.Core.Bool.{not};
-ghost use Rattle.model.specs.Calls.{create, close, resetEvent, read, cancel, wait, aSemaphore, aMutex, anEvent, lend};
-ghost use Rattle.model.specs.Steps.{tableStep, makeTables};
+ghost use Rattle.model.specs.Calls.{create, close, resetEvent, read, cancel, wait, aSemaphore, aMutex, anEvent, lend, asks};
+ghost use Rattle.model.specs.Steps.{tableStep, makeTables, seen};
 ghost use Rattle.model.specs.Waits.{any, all};
 ghost use Rattle.cells.specs.Calls.{answered, createCells, waitOnCells, guarded};
 ghost use Rattle.kinds.specs.Values.{cellsOf};
-ghost use Rattle.ntsync.specs.Contract.{asked, leaving};
 use calls::Numbered;
 use kinds::Creation;
 use kinds::Event;
@@ -61,7 +60,7 @@ const CORRUPT: u32 = 9;
 
 // Newly made tables; only the length is looked at.
 pub fn init(tables: &mut [u64]) -> u32
-    ensures { λ r. ⌜ leaving r 0 0 (now (tables .exit)) ≡ makeTables (now (tables .entry)) ⌝ }
+    ensures { λ r. ⌜ seen (makeTables (now (tables .entry))) ≡ (r ∷ 0 ∷ 0 ∷ 0 ∷ [], [], [], now (tables .exit)) ⌝ }
 {
     if tables.len() != tables::TABLE_LENGTH {
         return CORRUPT;
@@ -74,7 +73,7 @@ pub fn init(tables: &mut [u64]) -> u32
 
 fn place(tables: &mut [u64], new: Creation) -> Numbered
     ensures { λ r. ⌜ answered (r .answer) (r .number) 0 (now (tables .exit)) (lend [] [])
-        ≡ guarded (now (tables .entry)) (createCells (not (new .ok)) (cellsOf (new .object)) (now (tables .entry)) (lend [] [])) ⌝ }
+        ≡ guarded (lend [] []) (now (tables .entry)) (createCells (not (new .ok)) (cellsOf (new .object)) (now (tables .entry)) (lend [] [])) ⌝ }
 {
     let corrupt = !validity::valid(tables);
     if corrupt {
@@ -87,7 +86,7 @@ fn place(tables: &mut [u64], new: Creation) -> Numbered
 }
 
 pub fn create_sem(tables: &mut [u64], count: u32, max: u32) -> Created
-    ensures { λ r. ⌜ leaving (r .answer) (r .handle) 0 (now (tables .exit)) ≡ tableStep (now (tables .entry)) (asked (create aSemaphore count max)) ⌝ }
+    ensures { λ r. ⌜ seen (tableStep (now (tables .entry)) (asks (create aSemaphore count max) [] [])) ≡ (r .answer ∷ r .handle ∷ 0 ∷ 0 ∷ [], [], [], now (tables .exit)) ⌝ }
 {
     let new = Semaphore::create(count, max);
     let r = place(tables, new);
@@ -98,7 +97,7 @@ pub fn create_sem(tables: &mut [u64], count: u32, max: u32) -> Created
 }
 
 pub fn create_mutex(tables: &mut [u64], owner: u32, count: u32) -> Created
-    ensures { λ r. ⌜ leaving (r .answer) (r .handle) 0 (now (tables .exit)) ≡ tableStep (now (tables .entry)) (asked (create aMutex owner count)) ⌝ }
+    ensures { λ r. ⌜ seen (tableStep (now (tables .entry)) (asks (create aMutex owner count) [] [])) ≡ (r .answer ∷ r .handle ∷ 0 ∷ 0 ∷ [], [], [], now (tables .exit)) ⌝ }
 {
     let new = Mutex::create(owner, count);
     let r = place(tables, new);
@@ -109,7 +108,7 @@ pub fn create_mutex(tables: &mut [u64], owner: u32, count: u32) -> Created
 }
 
 pub fn create_event(tables: &mut [u64], signaled: u32, manual: u32) -> Created
-    ensures { λ r. ⌜ leaving (r .answer) (r .handle) 0 (now (tables .exit)) ≡ tableStep (now (tables .entry)) (asked (create anEvent signaled manual)) ⌝ }
+    ensures { λ r. ⌜ seen (tableStep (now (tables .entry)) (asks (create anEvent signaled manual) [] [])) ≡ (r .answer ∷ r .handle ∷ 0 ∷ 0 ∷ [], [], [], now (tables .exit)) ⌝ }
 {
     let new = Event::create(signaled, manual);
     let r = place(tables, new);
@@ -122,7 +121,7 @@ pub fn create_event(tables: &mut [u64], signaled: u32, manual: u32) -> Created
 // ---- reading
 
 pub fn read_sem(tables: &[u64], handle: u32) -> SemaphoreState
-    ensures { λ r. ⌜ leaving (r .answer) (r .count) (r .max) (now (tables .entry)) ≡ tableStep (now (tables .entry)) (asked (read aSemaphore handle)) ⌝ }
+    ensures { λ r. ⌜ seen (tableStep (now (tables .entry)) (asks (read aSemaphore handle) [] [])) ≡ (r .answer ∷ r .count ∷ r .max ∷ 0 ∷ [], [], [], now (tables .entry)) ⌝ }
 {
     let corrupt = !validity::valid(tables);
     if corrupt {
@@ -141,7 +140,7 @@ pub fn read_sem(tables: &[u64], handle: u32) -> SemaphoreState
 }
 
 pub fn read_mutex(tables: &[u64], handle: u32) -> MutexState
-    ensures { λ r. ⌜ leaving (r .answer) (r .owner) (r .count) (now (tables .entry)) ≡ tableStep (now (tables .entry)) (asked (read aMutex handle)) ⌝ }
+    ensures { λ r. ⌜ seen (tableStep (now (tables .entry)) (asks (read aMutex handle) [] [])) ≡ (r .answer ∷ r .owner ∷ r .count ∷ 0 ∷ [], [], [], now (tables .entry)) ⌝ }
 {
     let corrupt = !validity::valid(tables);
     if corrupt {
@@ -160,7 +159,7 @@ pub fn read_mutex(tables: &[u64], handle: u32) -> MutexState
 }
 
 pub fn read_event(tables: &[u64], handle: u32) -> EventState
-    ensures { λ r. ⌜ leaving (r .answer) (r .signaled) (r .manual) (now (tables .entry)) ≡ tableStep (now (tables .entry)) (asked (read anEvent handle)) ⌝ }
+    ensures { λ r. ⌜ seen (tableStep (now (tables .entry)) (asks (read anEvent handle) [] [])) ≡ (r .answer ∷ r .signaled ∷ r .manual ∷ 0 ∷ [], [], [], now (tables .entry)) ⌝ }
 {
     let corrupt = !validity::valid(tables);
     if corrupt {
@@ -181,7 +180,7 @@ pub fn read_event(tables: &[u64], handle: u32) -> EventState
 // ---- closing, resetting, cancelling
 
 pub fn close(tables: &mut [u64], handle: u32) -> u32
-    ensures { λ r. ⌜ leaving r 0 0 (now (tables .exit)) ≡ tableStep (now (tables .entry)) (asked (close handle)) ⌝ }
+    ensures { λ r. ⌜ seen (tableStep (now (tables .entry)) (asks (close handle) [] [])) ≡ (r ∷ 0 ∷ 0 ∷ 0 ∷ [], [], [], now (tables .exit)) ⌝ }
 {
     let corrupt = !validity::valid(tables);
     if corrupt {
@@ -191,7 +190,7 @@ pub fn close(tables: &mut [u64], handle: u32) -> u32
 }
 
 pub fn reset(tables: &mut [u64], handle: u32) -> Changed
-    ensures { λ r. ⌜ (leaving (r .answer) (r .previous) 0 (now (tables .exit)) ≡ tableStep (now (tables .entry)) (asked (resetEvent handle))) × (r .woken ≡ 0) ⌝ }
+    ensures { λ r. ⌜ seen (tableStep (now (tables .entry)) (asks (resetEvent handle) [] [])) ≡ (r .answer ∷ r .previous ∷ 0 ∷ r .woken ∷ [], [], [], now (tables .exit)) ⌝ }
 {
     let corrupt = !validity::valid(tables);
     if corrupt {
@@ -210,7 +209,7 @@ pub fn reset(tables: &mut [u64], handle: u32) -> Changed
 }
 
 pub fn cancel(tables: &mut [u64], ticket: u64) -> u32
-    ensures { λ r. ⌜ leaving r 0 0 (now (tables .exit)) ≡ tableStep (now (tables .entry)) (asked (cancel ticket)) ⌝ }
+    ensures { λ r. ⌜ seen (tableStep (now (tables .entry)) (asks (cancel ticket) [] [])) ≡ (r ∷ 0 ∷ 0 ∷ 0 ∷ [], [], [], now (tables .exit)) ⌝ }
 {
     let corrupt = !validity::valid(tables);
     if corrupt {
@@ -233,7 +232,7 @@ fn wait(
     time: u64,
 ) -> Waited
     ensures { λ r. ⌜ answered (r .answer) (r .index) (r .ticket) (now (tables .exit)) (lend [] [])
-        ≡ guarded (now (tables .entry)) (waitOnCells mode (now (list .entry)) owner flags pad alert timeout time (now (tables .entry)) (lend [] [])) ⌝ }
+        ≡ guarded (lend [] []) (now (tables .entry)) (waitOnCells mode (now (list .entry)) owner flags pad alert timeout time (now (tables .entry)) (lend [] [])) ⌝ }
 {
     let corrupt = !validity::valid(tables);
     if corrupt {
@@ -271,7 +270,7 @@ pub fn wait_any(
     timeout: u64,
     time: u64,
 ) -> Waited
-    ensures { λ r. ⌜ leaving (r .answer) (r .index) (r .ticket) (now (tables .exit)) ≡ tableStep (now (tables .entry)) (asked (wait any (now (list .entry)) owner flags pad alert timeout time)) ⌝ }
+    ensures { λ r. ⌜ seen (tableStep (now (tables .entry)) (asks (wait any (now (list .entry)) owner flags pad alert timeout time) [] [])) ≡ (r .answer ∷ r .index ∷ r .ticket ∷ 0 ∷ [], [], [], now (tables .exit)) ⌝ }
 {
     wait(tables, 0, list, owner, alert, flags, pad, timeout, time)
 }
@@ -286,7 +285,7 @@ pub fn wait_all(
     timeout: u64,
     time: u64,
 ) -> Waited
-    ensures { λ r. ⌜ leaving (r .answer) (r .index) (r .ticket) (now (tables .exit)) ≡ tableStep (now (tables .entry)) (asked (wait all (now (list .entry)) owner flags pad alert timeout time)) ⌝ }
+    ensures { λ r. ⌜ seen (tableStep (now (tables .entry)) (asks (wait all (now (list .entry)) owner flags pad alert timeout time) [] [])) ≡ (r .answer ∷ r .index ∷ r .ticket ∷ 0 ∷ [], [], [], now (tables .exit)) ⌝ }
 {
     wait(tables, 1, list, owner, alert, flags, pad, timeout, time)
 }

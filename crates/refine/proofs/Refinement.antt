@@ -14,6 +14,7 @@ use Rattle.model.specs.Steps.{libraryStep, onTables, tableStep, makeTables}
 use Rattle.model.specs.Waits.{State}
 use Rattle.model.proofs.Logic.{byBool}
 use Rattle.model.proofs.Validity.{tables-valid}
+use Rattle.model.proofs.Tables.{initial-tables}
 use Rattle.model.proofs.Valid.{Valid}
 use Rattle.cells.specs.Calls.{onCells, callCells, madeCells, makeCells}
 use Rattle.cells.specs.Fold.{foldBelow}
@@ -51,4 +52,4 @@ zeros n t e =
 
 pub make-means : (t : List ℕ) → makeCells t ≡ told (makeTables t)
 unfolding makeCells madeCells makeTables
-make-means t = byBool (eqb (length t) tableLength) (λ y. rw (y, zeros tableLength t (eqb-true _ _ y))) (λ n. rw n)
+make-means t = byBool (eqb (length t) tableLength) (λ y. rw (y, zeros tableLength t (eqb-true _ _ y), initial-tables)) (λ n. rw n)

@@ -16,7 +16,7 @@ use Rattle.model.specs.Calls.{Operation, wait, Lent, least, listTooShort, repea
 use Rattle.model.specs.Layout.{headerSize, modeCell, waitCells, encode}
 use Rattle.model.specs.Sizes.{waitPlaces, maxListed, word64}
 use Rattle.model.specs.Steps.{firstRefusal}
-use Rattle.model.specs.Waits.{Mode, any, all, Wait, WaitPlace, free, waiting, State, withObjects, withWaits, withNext, Grant, attempt, acquireEach, servedAnswer}
+use Rattle.model.specs.Waits.{Mode, any, all, Wait, WaitPlace, free, waiting, State, withObjects, withWaits, Grant, attempt, acquireEach, servedAnswer}
 use Rattle.model.proofs.Logic.{byBool, byOption, fault-free}
 use Rattle.model.proofs.Valid.{Valid}
 use Rattle.cells.specs.Waits.{waitCell, nextTicket, ticketAt, has}
@@ -105,7 +105,7 @@ search-enqueue w (waiting v ∷ ws) i f e = let a : f i ≡ false = ap f (sym (a
     let b = (search-is f (suc i) (length ws)) .low in let z : searchFrom f (suc i) (length ws) - i ≡ suc (searchFrom f (suc i) (length ws) - suc i) = omega arith in
     rw (a, z) (ap (λ (l : List WaitPlace). waiting v ∷ l) (search-enqueue w ws (suc i) f (λ k l. ap f (suc-add i k ∙ sym (add-suc i k)) ∙ e (suc k) (omega arith))))
 
-next-cell : (s : State) (n : ℕ) → set (encode s) 0 n ≡ encode (withNext s n)
+next-cell : (s : State) (n : ℕ) → set (encode s) 0 n ≡ encode (record { objects = s .objects; waits = s .waits; next = n })
 unfolding encode
 next-cell s n = refl
 
@@ -134,7 +134,7 @@ module _ (s : State) (g : Valid s) where
       ∙ ap (λ (n : ℕ). set (s .waits) n (waiting w)) (let z : searchFrom freeTest 0 (length (s .waits)) - 0 ≡ searchFrom freeTest 0 (length (s .waits)) = omega arith in z ∙ ap (searchFrom freeTest 0) q)
 
   queue-is : (w : Wait) → w .ticket ≡ s .next → emptyWait (encode s) < waitPlaces → length (w .list) ≤ maxListed
-      → queueCells (encode s) (emptyWait (encode s)) (modeCell (w .mode)) (w .list) (w .owner) (w .clock) (w .alert) (w .timeout) ≡ encode (withNext (withWaits s (enqueue w (s .waits))) (suc (s .next)))
+      → queueCells (encode s) (emptyWait (encode s)) (modeCell (w .mode)) (w .list) (w .owner) (w .clock) (w .alert) (w .timeout) ≡ encode (record { objects = s .objects; waits = enqueue w (s .waits); next = suc (s .next) })
   unfolding queueCells
   queue-is w t l n =
       let p : ℕ = emptyWait (encode s) in
@@ -176,8 +176,8 @@ module _ (s : State) (g : Valid s) (mode : Mode) (hs : List ℕ) (o f p a time n
       byBool (leb word64 (suc (s .next)))
       (λ z. rw (u, e, nt, z) (refused-is s op l 8 (rw (any-length (l .wake), any-length (l .buffer), ok, miss, u, y, z))))
       (λ z. let q = queue-is s g w refl (ltb-true _ _ e) (ltb-false maxListed (length hs) (fault-free (waitFaults mode hs o f p a (s .objects)) ok 1)) in
-      rw (u, e, nt, z, q, read-next s) (plain (withNext (withWaits s (enqueue w (s .waits))) (suc (s .next))) l 11 0 (s .next)
-      ∙ (let c : answers 11 0 (s .next) (withNext (withWaits s (enqueue w (s .waits))) (suc (s .next))) ≡ admits w now s = rw (miss, u) in ap (leaves l) c)
+      rw (u, e, nt, z, q, read-next s) (plain (record { objects = s .objects; waits = enqueue w (s .waits); next = suc (s .next) }) l 11 0 (s .next)
+      ∙ (let c : answers 11 0 (s .next) (record { objects = s .objects; waits = enqueue w (s .waits); next = suc (s .next) }) ≡ admits w now s = rw (miss, u) in ap (leaves l) c)
       ∙ accepted-is s op l (rw (any-length (l .wake), any-length (l .buffer), ok, miss, u, y, z))))))
 
   served-is : (t : Grant) → anyOf (waitFaults mode hs o f p a (s .objects)) ≡ false → attempt (s .objects) w ≡ some t

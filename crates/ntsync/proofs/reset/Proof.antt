@@ -1,4 +1,3 @@
-use mathlib.Core.Path.{refl}
 use Rattle.model.specs.Calls.{resetEvent}
 use Rattle.ntsync.proofs.Laws.{found-length, found-valid, corrupt, served}
 use native.Mathlib.Omega.{arith}
@@ -20,7 +19,7 @@ same-length c = search needs
 
 -- src/lib.rt:190:9
 returns : tie.Need-returns
-returns c = let a = c .before .before .before .before .args in (corrupt (resetEvent (a .handle)) (a .tables .now) (λ i. omega (arith, c .before .before .before .slice-known .given i)) (c .before .valid .ensures) (c .if1 .taken), refl)
+returns c = let a = c .before .before .before .before .args in corrupt (resetEvent (a .handle)) (a .tables .now) (λ i. omega (arith, c .before .before .before .slice-known .given i)) (c .before .valid .ensures) (c .if1 .taken)
 
 -- src/lib.rt:196:9
 reset-requires : tie.Need-reset-requires
@@ -32,7 +31,7 @@ same-length-2 c = search needs
 
 -- src/lib.rt:185:1
 returns-2 : tie.Need-returns-2
-returns-2 c = let a = c .before .before .before .before .before .before .before .before .args in (served (resetEvent (a .handle)) (a .tables .now) (λ i. omega (arith, c .before .before .before .before .before .before .before .slice-known .given i)) (c .before .before .before .before .before .valid .ensures) (c .before .before .before .before .if1 .left) (c .before .before .reset .ensures), refl)
+returns-2 c = let a = c .before .before .before .before .before .before .before .before .args in served (resetEvent (a .handle)) (a .tables .now) (λ i. omega (arith, c .before .before .before .before .before .before .before .slice-known .given i)) (c .before .before .before .before .before .valid .ensures) (c .before .before .before .before .if1 .left) (c .before .before .reset .ensures)
 
 pub reset-spec : {M : Type 1} → statement M
 reset-spec =
