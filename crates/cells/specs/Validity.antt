@@ -36,12 +36,13 @@ occupiedList t list = allBelow (λ i. occupiedAt t (getD list i 0)) (length list
 unfoldable pub repeatedList : List ℕ → Bool
 repeatedList list = someBelow (λ k. someBelow (λ j. eqb (getD list j 0) (getD list k 0)) k) (length list)
 
--- repeats are found by flags, which every handle has
-abbrev pub marks : ℕ
-marks = 256
+-- a list for a mode: its handles are occupied, and in a wait for all none of them is the alert or stands twice
+unfoldable pub properList : List ℕ → ℕ → List ℕ → ℕ → Bool
+properList t mode list alert = occupiedList t list && (eqb mode 0 || not (has list alert || repeatedList list))
 
-abbrev pub belowMarks : List ℕ → Bool
-belowMarks list = allBelow (λ i. ltb (getD list i 0) marks) (length list)
+-- an alert is 0 or an event
+abbrev pub properAlert : List ℕ → ℕ → Bool
+properAlert t alert = eqb alert 0 || eventAt t alert
 
 -- the list's cells from the n-th on are zero
 unfoldable pub unusedZero : List ℕ → ℕ → ℕ → Bool

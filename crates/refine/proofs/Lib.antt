@@ -1,4 +1,5 @@
 pub mod Fold
+pub mod Shapes
 pub mod Objects
 pub mod Waits
 pub mod Attempt

@@ -14,7 +14,7 @@ use Rattle.cells.specs.Fold.{orBelow, cellFrom}
 use Rattle.cells.specs.Waits.{nextTicket, waitCell, countAt, listOf, namesOf}
 use Rattle.cells.specs.Calls.{putHeader, putList, queueCells}
 use Rattle.cells.specs.Validity.{unusedZero, validFree}
-use Rattle.cells.proofs.Fold.{or-all-zero, all-same}
+use Rattle.refine.proofs.Shapes.{or-all-zero, all-same}
 
 -- a handle or not
 pub named-zero : (t : List ℕ) (h : ℕ) → h ≡ 0 → noFields ≡ named t h

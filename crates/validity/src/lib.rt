@@ -1,6 +1,6 @@
 // The validity check (01: sound tables, else damaged): one pass over the objects, one over the waits.
 ghost use mathlib.Core.Path.{_≡_};
-ghost use mathlib.Core.Bool.{true, not};
+ghost use mathlib.Core.Bool.{true};
 ghost use Prim.Native.Nat.{_<_};
 ghost use lib.ListN.{length};
 ghost use Rattle.model.specs.Basics.{allOf};
@@ -8,7 +8,7 @@ ghost use Rattle.model.specs.Sizes.{objectPlaces, waitPlaces};
 ghost use Rattle.model.specs.Layout.{tableLength};
 ghost use Rattle.cells.specs.Fold.{allBelow};
 ghost use Rattle.cells.specs.Objects.{fieldsAt};
-ghost use Rattle.cells.specs.Validity.{validFields, occupiedAt, eventAt, tooFew, occupiedList, belowMarks, repeatedList, aloneAt, headerTests, namesTests, validPlace, validCells};
+ghost use Rattle.cells.specs.Validity.{validFields, occupiedAt, eventAt, tooFew, occupiedList, properList, properAlert, aloneAt, headerTests, namesTests, validPlace, validCells};
 ghost use Rattle.kinds.specs.Values.{cellsOf};
 use kinds::Event;
 use kinds::Mutex;
@@ -81,7 +81,7 @@ pub fn is_event(t: &[u64], h: u64) -> bool
     o.kind == Event::KIND
 }
 
-pub fn occupied_list(t: &[u64], list: &[u64]) -> bool
+fn occupied_list(t: &[u64], list: &[u64]) -> bool
     requires { ⌜ length (now t) ≡ tableLength ⌝ }
     ensures { λ r. ⌜ r ≡ occupiedList (now (t .entry)) (now (list .entry)) ⌝ }
 {
@@ -96,20 +96,36 @@ pub fn occupied_list(t: &[u64], list: &[u64]) -> bool
     ok
 }
 
-// No number twice, by a flag for each number met: asked only of numbers that have a flag.
-pub fn distinct(list: &[u64]) -> bool
-    ensures { λ r. ⌜ (belowMarks (now (list .entry)) ≡ true → r ≡ not (repeatedList (now (list .entry)))) ⌝ }
+// The list's handles are occupied, and none of them is the alert or stands twice: one walk, with a flag for each number met.
+fn occupied_once(t: &[u64], mode: u64, list: &[u64], alert: u64) -> bool
+    requires { ⌜ (length (now t) ≡ tableLength) × (mode ≡ 0 → ⊥) ⌝ }
+    ensures { λ r. ⌜ (properAlert (now (t .entry)) alert ≡ true → r ≡ properList (now (t .entry)) mode (now (list .entry)) alert) ⌝ }
 {
     let mut seen: [u8; MARKS] = [0; MARKS];
+    let first = (alert % (MARKS as u64)) as usize;
+    seen[first] = 1;
     let mut ok = true;
     let mut i: usize = 0;
     while i < list.len() {
-        let h = (list[i] % (MARKS as u64)) as usize;
-        ok = ok & (seen[h] == 0);
-        seen[h] = 1;
+        let h = list[i];
+        let here = occupied(t, h);
+        let flag = (h % (MARKS as u64)) as usize;
+        ok = ok & here & (seen[flag] == 0);
+        seen[flag] = 1;
         i += 1;
     }
     ok
+}
+
+// A list for its mode, where the alert is a proper one.
+pub fn proper_list(t: &[u64], mode: u64, list: &[u64], alert: u64) -> bool
+    requires { ⌜ length (now t) ≡ tableLength ⌝ }
+    ensures { λ r. ⌜ (properAlert (now (t .entry)) alert ≡ true → r ≡ properList (now (t .entry)) mode (now (list .entry)) alert) ⌝ }
+{
+    if mode == 0 {
+        return occupied_list(t, list);
+    }
+    occupied_once(t, mode, list, alert)
 }
 
 // Refusing an empty list is house.
@@ -163,19 +179,13 @@ fn valid_names(t: &[u64], p: usize) -> bool
     requires { ⌜ (p < waitPlaces) × (length (now t) ≡ tableLength) ⌝ }
     ensures { λ r. ⌜ r ≡ allOf (namesTests (now (t .entry)) p) ⌝ }
 {
+    let mode = tables::mode_at(t, p);
     let list = tables::list_of(t, p);
-    let listed = occupied_list(t, list);
-    let unused = tables::unused_zero(t, p);
     let alert = tables::alert_at(t, p);
     let event = is_event(t, alert);
-    let ok = listed & unused & ((alert == 0) | event);
-    let mode = tables::mode_at(t, p);
-    if mode == 0 {
-        return ok;
-    }
-    let names = tables::names_of(t, p);
-    let once = distinct(names);
-    ok & once
+    let unused = tables::unused_zero(t, p);
+    let proper = proper_list(t, mode, list, alert);
+    proper & unused & ((alert == 0) | event)
 }
 
 fn valid_place(t: &[u64], p: usize) -> bool

@@ -1,7 +1,7 @@
 -- What a wait's definitions come to on each way through the code.
 use Prim.Native.Nat.{ℕ, _+_, _<_, _≤_}
 use mathlib.Core.Path.{_≡_, refl, sym, ap, _∙_}
-use mathlib.Core.Bool.{Bool, true, false, not, _&&_, _||_, cond, or-assoc, or-false}
+use mathlib.Core.Bool.{Bool, true, false, not, _&&_, _||_, cond, or-assoc, or-true, or-false}
 use mathlib.Core.List.{List, [], _∷_}
 use native.Mathlib.Omega.{arith}
 use native.Mathlib.Nat.{le-trans}
@@ -15,12 +15,10 @@ use Rattle.model.specs.Basics.{anyOf}
 use Rattle.model.specs.Calls.{Lent, timeUp}
 use Rattle.model.proofs.Logic.{byBool, clash, not-true, not-false, not-twice, fault-free}
 use Rattle.cells.specs.Waits.{nextTicket, has}
-use Rattle.cells.specs.Validity.{occupiedAt, eventAt, tooFew, occupiedList, repeatedList, belowMarks, marks}
+use Rattle.cells.specs.Validity.{eventAt, tooFew, occupiedList, repeatedList, properList, properAlert}
 use Rattle.cells.specs.Attempt.{Tried, tryList}
 use Rattle.attempt.proofs.Laws.{missed-same, index-le}
 use Rattle.cells.specs.Calls.{Result, answered, refusedWith, badWait, ticketPlace, queueCells, laterCells, actCells, waitOnCells}
-use Rattle.refine.proofs.Fold.{all-at, all-intro}
-use Rattle.validity.proofs.Laws.{occupied-flagged}
 
 -- tests joined one after another
 abbrev pub eitherLeft : Bool → List Bool → Bool
@@ -32,31 +30,28 @@ unfolding anyOf
 any-left a [] = sym (or-false a)
 any-left a (b ∷ bs) = any-left (a || b) bs ∙ or-assoc a b (anyOf bs)
 
-or-same : (a b c : Bool) → (a ≡ false → b ≡ c) → (a || b) ≡ (a || c)
-or-same true b c f = refl
-or-same false b c f = f refl
-
-pub list-flagged : (t list : List ℕ) → occupiedList t list ≡ true → belowMarks list ≡ true
-unfolding occupiedList
-list-flagged t list o = all-intro (λ i. ltb (getD list i 0) marks) (length list) (λ i l. occupied-flagged t (getD list i 0) (all-at (λ i. occupiedAt t (getD list i 0)) (length list) o i l))
-
 -- the faults of a wait, from what was read
-module _ (t : List ℕ) (mode : ℕ) (list : List ℕ) (asking flags pad alert : ℕ) {few listed event : Bool} (f : few ≡ tooFew mode (length list)) (o : listed ≡ occupiedList t list) (e : event ≡ eventAt t alert) where
-  abbrev faults : List Bool
-  faults = ltb maxListed (length list) ∷ not (occupiedList t list) ∷ eqb asking 0 ∷ ltb 1 flags ∷ not (eqb pad 0) ∷ not (eqb alert 0 || eventAt t alert) ∷ []
+unproper : (mode repeated : Bool) → not (mode || not repeated) ≡ (not mode && repeated)
+unproper true r = refl
+unproper false r = sym (not-twice r)
 
-  pub bad-any : mode ≡ 0 → eitherLeft few (ltb maxListed (length list) ∷ not listed ∷ eqb asking 0 ∷ ltb 1 flags ∷ not (eqb pad 0) ∷ not (eqb alert 0 || event) ∷ []) ≡ badWait mode list asking flags pad alert t
-  unfolding badWait anyOf
-  bad-any z = rw (f, o, e, eq-eqb mode 0 z) (any-left (tooFew mode (length list)) faults)
+to-last : (y a b c : Bool) → (y || (a || (b || (c || false)))) ≡ (a || (b || (c || (y || false))))
+to-last true a b c = sym (rw (or-true c, or-true b, or-true a))
+to-last false a b c = refl
 
-  pub bad-all : (mode ≡ 0 → ⊥) → {again once : Bool} → again ≡ has list alert → (belowMarks list ≡ true → once ≡ not (repeatedList list))
-      → eitherLeft few (ltb maxListed (length list) ∷ not listed ∷ eqb asking 0 ∷ ltb 1 flags ∷ not (eqb pad 0) ∷ not (eqb alert 0 || event) ∷ (again || not once) ∷ []) ≡ badWait mode list asking flags pad alert t
-  unfolding badWait
-  bad-all n {again} {once} h d =
-      let B : Bool = eitherLeft (tooFew mode (length list)) faults in let D : Bool = has list alert || repeatedList list in
-      rw (f, o, e, ne-eqb mode 0 n) (or-same B (again || not once) D (λ q. let v = fault-free (tooFew mode (length list) ∷ faults) (sym (any-left (tooFew mode (length list)) faults) ∙ q) 2 in
-      rw (h, d (list-flagged t list (not-false (occupiedList t list) v)), sym (not-twice (repeatedList list))))
-      ∙ any-left (tooFew mode (length list)) (ltb maxListed (length list) ∷ not (occupiedList t list) ∷ eqb asking 0 ∷ ltb 1 flags ∷ not (eqb pad 0) ∷ not (eqb alert 0 || eventAt t alert) ∷ D ∷ []))
+sixth : (a b c d e f z : Bool) → (a || (b || (c || (d || (e || (f || (true || z))))))) ≡ true
+sixth a b c d e f z = rw (or-true f, or-true e, or-true d, or-true c, or-true b, or-true a)
+
+pub bad-is : (t : List ℕ) (mode : ℕ) (list : List ℕ) (asking flags pad alert : ℕ) {few proper event : Bool} → few ≡ tooFew mode (length list) → event ≡ eventAt t alert → (properAlert t alert ≡ true → proper ≡ properList t mode list alert)
+    → eitherLeft few (ltb maxListed (length list) ∷ not proper ∷ eqb asking 0 ∷ ltb 1 flags ∷ not (eqb pad 0) ∷ not (eqb alert 0 || event) ∷ []) ≡ badWait mode list asking flags pad alert t
+unfolding badWait properList anyOf
+bad-is t mode list asking flags pad alert {few} {proper} f e q =
+    let D : Bool = has list alert || repeatedList list in let a : Bool = eqb asking 0 in let b : Bool = ltb 1 flags in let c : Bool = not (eqb pad 0) in let l : Bool = ltb maxListed (length list) in
+    rw (f, e) (any-left (tooFew mode (length list)) (l ∷ not proper ∷ a ∷ b ∷ c ∷ not (properAlert t alert) ∷ []) ∙ byBool (properAlert t alert)
+    (λ y. rw (q y, y) (byBool (occupiedList t list)
+    (λ o. rw (o, unproper (eqb mode 0) D, to-last (not (eqb mode 0) && D) a b c))
+    (λ o. rw o)))
+    (λ n. rw (n, sixth (tooFew mode (length list)) l (not proper) a b c false, sixth (tooFew mode (length list)) l (not (occupiedList t list)) a b c ((not (eqb mode 0) && D) || false))))
 
 -- after a failed attempt
 module _ (t : List ℕ) (mode : ℕ) (list : List ℕ) (asking flags alert timeout time : ℕ) (l : Lent) where

@@ -32,21 +32,15 @@ fn bad_wait(
 {
     let n = list.len();
     let few = validity::too_few(mode, n as u64);
-    let listed = validity::occupied_list(t, list);
     let event = validity::is_event(t, alert);
-    let bad = few
+    let proper = validity::proper_list(t, mode, list, alert);
+    few
         | (tables::MAX_LISTED < n)
-        | !listed
+        | !proper
         | (asking == 0)
         | (1 < flags)
         | !(pad == 0)
-        | !((alert == 0) | event);
-    if mode == 0 {
-        return bad;
-    }
-    let again = tables::has(list, alert);
-    let once = validity::distinct(list);
-    bad | (again | !once)
+        | !((alert == 0) | event)
 }
 
 // After a failed attempt: the time is up, or there is room in the queue, or not.
