@@ -14,7 +14,7 @@ use native.Mathlib.Nat.{mod-lt, mod-eq-of-lt}
 use borrow.Author.Tests.{lt-ltb, eq-eqb, ne-eqb, eqb-true, eqb-false, ltb-true, ltb-false}
 use Rattle.model.specs.Basics.{bit, hasRepeat}
 use Rattle.model.specs.Sizes.{objectPlaces}
-use Rattle.model.proofs.Logic.{byBool, clash}
+use Rattle.model.proofs.Logic.{byBool, clash, not-true, not-false}
 use Rattle.cells.specs.Fold.{foldBelow, allBelow, someBelow, orBelow}
 use Rattle.cells.specs.Objects.{named}
 use Rattle.cells.specs.Waits.{has}
@@ -124,13 +124,13 @@ unfolding occupiedList
 names-flagged t a list o e = all-first (λ i. ltb (getD (a ∷ list) i 0) marks) (length list)
     ∙ rw (alert-flagged t a e, all-intro (λ i. ltb (getD list i 0) marks) (length list) (λ i l. occupied-flagged t (getD list i 0) (all-at (λ i. occupiedAt t (getD list i 0)) (length list) o i l)))
 
--- ONE WALK over a list: each handle occupied, and neither the alert nor one before it
-shuffle : (a b c d : Bool) → (((a && b) && c) && d) ≡ ((a && c) && (b && d))
+-- ONE WALK over a list: each handle is occupied, and neither the alert nor one before it
+shuffle : (a b c d : Bool) → ((a && b) && (c && d)) ≡ ((a && c) && (b && d))
 shuffle true true c d = refl
 shuffle true false c d = sym (and-false c)
 shuffle false b c d = refl
 
-all-both : (f g : ℕ → Bool) (n : ℕ) → foldBelow (λ b i. (b && f i) && g i) true n ≡ (allBelow f n && allBelow g n)
+all-both : (f g : ℕ → Bool) (n : ℕ) → allBelow (λ i. f i && g i) n ≡ (allBelow f n && allBelow g n)
 unfolding foldBelow
 all-both f g zero = refl
 all-both f g (suc n) = rw (all-both f g n) (shuffle (allBelow f n) (allBelow g n) (f n) (g n))
@@ -138,8 +138,8 @@ all-both f g (suc n) = rw (all-both f g n) (shuffle (allBelow f n) (allBelow g n
 abbrev pub seenNames : ℕ → List ℕ → ℕ → List ℕ
 seenNames alert list i = seenBelow (flagOf (alert ∷ list)) (suc i)
 
-abbrev pub onceStep : List ℕ → List ℕ → ℕ → Bool → ℕ → Bool
-onceStep t list alert b i = (b && occupiedAt t (getD list i 0)) && eqb (getD (seenNames alert list i) (getD list i 0 % marks) 0) 0
+abbrev pub onceAt : List ℕ → List ℕ → ℕ → ℕ → Bool
+onceAt t list alert i = occupiedAt t (getD list i 0) && eqb (getD (seenNames alert list i) (getD list i 0 % marks) 0) 0
 
 pub seen-alert : (alert : ℕ) (list : List ℕ) → set (replicate marks 0) (alert % marks) 1 ≡ seenNames alert list 0
 unfolding foldBelow
@@ -154,8 +154,28 @@ unfolding foldBelow
 once-fresh alert list b = let f = flagOf (alert ∷ list) in let z : freshAt f 0 ≡ true = rw (seen-flag f 0 (f 0) (mod-lt _ (omega arith))) in
     ap (λ (x : Bool). x && allBelow (λ i. freshAt f (suc i)) (length list)) (sym z) ∙ sym (all-first (freshAt f) (length list)) ∙ distinct-is (alert ∷ list) b ∙ ap not (repeated-first alert list)
 
-pub once-is : (t list : List ℕ) (mode alert : ℕ) {n : ℕ} {ok : Bool} → (mode ≡ 0 → ⊥) → n ≡ length list → ok ≡ foldBelow (onceStep t list alert) true n → properAlert t alert ≡ true → ok ≡ properList t mode list alert
-unfolding properList occupiedList
-once-is t list mode alert z e o a = let occ : ℕ → Bool = λ i. occupiedAt t (getD list i 0) in
-    rw (ne-eqb mode 0 z, o, e) (all-both occ (λ i. freshAt (flagOf (alert ∷ list)) (suc i)) (length list)
-    ∙ and-same (allBelow occ (length list)) _ (not (has list alert || repeatedList list)) (λ q. once-fresh alert list (names-flagged t alert list q a)))
+module _ (t list : List ℕ) (mode alert : ℕ) (z : mode ≡ 0 → ⊥) where
+  once-is : properAlert t alert ≡ true → allBelow (onceAt t list alert) (length list) ≡ properList t mode list alert
+  unfolding properList occupiedList
+  once-is a = let occ : ℕ → Bool = λ i. occupiedAt t (getD list i 0) in
+      rw (ne-eqb mode 0 z) (all-both occ (λ i. freshAt (flagOf (alert ∷ list)) (suc i)) (length list)
+      ∙ and-same (allBelow occ (length list)) _ (not (has list alert || repeatedList list)) (λ q. once-fresh alert list (names-flagged t alert list q a)))
+
+  -- walked to the end
+  pub once-all : {n : ℕ} → n ≡ length list → allBelow (onceAt t list alert) n ≡ true → properAlert t alert ≡ true → true ≡ properList t mode list alert
+  once-all e y a = sym (let q : allBelow (onceAt t list alert) (length list) ≡ true = rw e at y in q) ∙ once-is a
+
+  -- or left at the i-th handle
+  module _ (i : ℕ) (l : i < length list) where
+    once-out : onceAt t list alert i ≡ false → properAlert t alert ≡ true → false ≡ properList t mode list alert
+    once-out n a = byBool (allBelow (onceAt t list alert) (length list)) (λ y. clash (all-at (onceAt t list alert) (length list) y i l) n) (λ m. sym m) ∙ once-is a
+
+    pub once-empty : {here : Bool} → here ≡ occupiedAt t (getD list i 0) → not here ≡ true → properAlert t alert ≡ true → false ≡ properList t mode list alert
+    once-empty {here} e n = once-out (let q : occupiedAt t (getD list i 0) ≡ false = sym e ∙ not-true here n in rw q)
+
+    pub once-again : {seen : List ℕ} → seen ≡ seenNames alert list i → (getD seen (getD list i 0 % marks) 0 ≡ 0 → ⊥) → properAlert t alert ≡ true → false ≡ properList t mode list alert
+    once-again {seen} e n = once-out (rw (sym e, ne-eqb _ 0 n, and-false (occupiedAt t (getD list i 0))))
+
+    pub once-more : {here : Bool} {seen : List ℕ} → allBelow (onceAt t list alert) i ≡ true → here ≡ occupiedAt t (getD list i 0) → not here ≡ false → seen ≡ seenNames alert list i → getD seen (getD list i 0 % marks) 0 ≡ 0 → allBelow (onceAt t list alert) (i + 1) ≡ true
+    unfolding foldBelow
+    once-more {here} {seen} y h n e x = rw (add-one, y, sym h, not-false here n, sym e, eq-eqb _ 0 x)

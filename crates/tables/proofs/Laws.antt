@@ -8,11 +8,11 @@ use lib.ListN.{length, getD, set, take, drop}
 use lib.Dec.{eqb, ltb, leb}
 use borrow.Author.Tests.{lt-ltb, le-ltb, le-leb, lt-leb, eq-eqb, ne-eqb, leb-true}
 use Rattle.model.specs.Sizes.{objectPlaces, maxListed}
-use Rattle.model.specs.Layout.{headerSize, waitSize, inWait}
+use Rattle.model.specs.Layout.{headerSize, waitSize, tableLength, inWait}
 use Rattle.cells.specs.Objects.{Fields, fields, noFields, objectCell, fieldsAt, putFields, named, store}
-use Rattle.cells.specs.Fold.{orBelow, cellFrom}
+use Rattle.cells.specs.Fold.{foldBelow, orBelow, cellFrom}
 use Rattle.cells.specs.Waits.{nextTicket, waitCell, countAt, listOf, namesOf}
-use Rattle.cells.specs.Calls.{putHeader, putList, queueCells}
+use Rattle.cells.specs.Calls.{putHeader, putList, queueCells, madeCells}
 use Rattle.cells.specs.Validity.{unusedZero, validFree}
 use Rattle.refine.proofs.Shapes.{or-all-zero, all-same}
 
@@ -97,3 +97,8 @@ pub queued-is : (t : List ℕ) (p mode : ℕ) (list : List ℕ) (owner clock ale
     → set v 0 (ticket + 1) ≡ queueCells t p mode list owner clock alert timeout
 unfolding queueCells
 queued-is t p mode list owner clock alert timeout e a b = rw (b, a, e)
+
+-- newly made tables, after the loop
+pub made-is : (t : List ℕ) {u : List ℕ} {n : ℕ} → n ≡ tableLength → u ≡ foldBelow (λ v i. set v i 0) t n → set u 0 1 ≡ madeCells t
+unfolding madeCells
+made-is t e f = rw (f, e)

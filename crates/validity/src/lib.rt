@@ -104,17 +104,21 @@ fn occupied_once(t: &[u64], mode: u64, list: &[u64], alert: u64) -> bool
     let mut seen: [u8; MARKS] = [0; MARKS];
     let first = (alert % (MARKS as u64)) as usize;
     seen[first] = 1;
-    let mut ok = true;
     let mut i: usize = 0;
     while i < list.len() {
         let h = list[i];
         let here = occupied(t, h);
+        if !here {
+            return false;
+        }
         let flag = (h % (MARKS as u64)) as usize;
-        ok = ok & here & (seen[flag] == 0);
+        if seen[flag] != 0 {
+            return false;
+        }
         seen[flag] = 1;
         i += 1;
     }
-    ok
+    true
 }
 
 // A list for its mode, where the alert is a proper one.

@@ -1,3 +1,4 @@
+use Rattle.tables.proofs.Laws.{made-is}
 use Rattle.cells.specs.Calls.{madeCells}
 use Rattle.model.specs.Layout.{tableLength}
 use Rattle.cells.proofs.Fold.{fold-none, fold-more}
@@ -53,8 +54,7 @@ same-length c = search needs
 
 -- src/lib.rt:255:1
 returns : tie.Need-returns Inv-loop μ-loop
-unfolding madeCells
-returns c = let e : c .before .loop .i ≡ tableLength = omega arith in cc
+returns c = let e : c .before .loop .i ≡ tableLength = omega arith in made-is (c .before .before .args .t .now) e (c .before .loop .inv .1 .1)
 
 pub make-spec : {M : Type 1} → statement M
 make-spec =
