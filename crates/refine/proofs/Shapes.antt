@@ -145,9 +145,9 @@ pub seen-alert : (alert : ℕ) (list : List ℕ) → set (replicate marks 0) (al
 unfolding foldBelow
 seen-alert alert list = refl
 
-pub seen-more : (alert : ℕ) (list : List ℕ) (i : ℕ) → set (seenNames alert list i) (getD list i 0 % marks) 1 ≡ seenNames alert list (i + 1)
+pub seen-more : (alert : ℕ) (list : List ℕ) (i : ℕ) {seen : List ℕ} → seen ≡ seenNames alert list i → set seen (getD list i 0 % marks) 1 ≡ seenNames alert list (i + 1)
 unfolding foldBelow
-seen-more alert list i = rw add-one
+seen-more alert list i e = rw (add-one, e)
 
 once-fresh : (alert : ℕ) (list : List ℕ) → belowMarks (alert ∷ list) ≡ true → allBelow (λ i. freshAt (flagOf (alert ∷ list)) (suc i)) (length list) ≡ not (has list alert || repeatedList list)
 unfolding foldBelow

@@ -73,7 +73,7 @@ loop-less c = search needs
 
 -- src/lib.rt:108:5
 loop-again : tie.Need-loop-again Inv-loop μ-loop
-loop-again c = let a = c .before .before .before .before .before .before .before .before .args in (search needs, once-more (a .t .now) (a .list .now) (a .mode) (a .alert) (c .before .before .before .before .before .before .before .before .pre .1) (c .before .before .before .before .before .loop .i) (c .before .before .before .before .loop-test .taken) (c .before .before .before .before .before .loop .inv .1) (c .before .before .occupied .ensures) (c .before .if1 .left) (c .before .before .before .before .before .loop .inv .2) (c .if2 .left), cc (seen-more (a .alert) (a .list .now) (c .before .before .before .before .before .loop .i)))
+loop-again c = let a = c .before .before .before .before .before .before .before .before .args in (search needs, once-more (a .t .now) (a .list .now) (a .mode) (a .alert) (c .before .before .before .before .before .before .before .before .pre .1) (c .before .before .before .before .before .loop .i) (c .before .before .before .before .loop-test .taken) (c .before .before .before .before .before .loop .inv .1) (c .before .before .occupied .ensures) (c .before .if1 .left) (c .before .before .before .before .before .loop .inv .2) (c .if2 .left), seen-more (a .alert) (a .list .now) (c .before .before .before .before .before .loop .i) (c .before .before .before .before .before .loop .inv .2))
 
 -- src/lib.rt:100:1
 returns-3 : tie.Need-returns-3 Inv-loop μ-loop
