@@ -135,12 +135,12 @@ module _ (t : List ℕ) (size : length t ≡ tableLength) (p : ℕ) (l : p < wai
   list-room : waitCell p + headerSize + countAt t p ≤ length t
   list-room = let c = count-low in omega arith
 
-  list-length : length (listOf t p) ≡ countAt t p
+  pub list-length : length (listOf t p) ≡ countAt t p
   unfolding listOf
   list-length = let r = list-room in let d : length (drop (waitCell p + headerSize) t) ≡ length t - (waitCell p + headerSize) = length-drop (waitCell p + headerSize) t in
       length-take-le (countAt t p) (drop (waitCell p + headerSize) t) (omega arith)
 
-  list-at : (k : ℕ) → k < countAt t p → getD (listOf t p) k 0 ≡ inWait t p (headerSize + k)
+  pub list-at : (k : ℕ) → k < countAt t p → getD (listOf t p) k 0 ≡ inWait t p (headerSize + k)
   unfolding listOf
   list-at k b = getD-take (countAt t p) (drop (waitCell p + headerSize) t) k 0 b ∙ getD-drop (waitCell p + headerSize) t k 0 ∙ ap (λ (j : ℕ). getD t j 0) (add-assoc (waitCell p) headerSize k)
 

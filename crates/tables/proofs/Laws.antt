@@ -5,9 +5,11 @@ use mathlib.Core.Bool.{Bool, true, false, cond}
 use mathlib.Core.List.{List}
 use native.Mathlib.Omega.{arith}
 use lib.ListN.{length, getD, set, take, drop}
+use lib.Seq.{take-suc, take-suc-set, take-length}
 use lib.Dec.{eqb, ltb, leb}
+use native.Mathlib.Numerals.{add-one}
 use borrow.Author.Tests.{lt-ltb, le-ltb, le-leb, lt-leb, eq-eqb, ne-eqb, leb-true}
-use Rattle.model.specs.Sizes.{objectPlaces, maxListed}
+use Rattle.model.specs.Sizes.{objectPlaces, waitPlaces, maxListed}
 use Rattle.model.specs.Layout.{headerSize, waitSize, tableLength, inWait}
 use Rattle.cells.specs.Objects.{Fields, fields, noFields, objectCell, fieldsAt, putFields, named, store}
 use Rattle.cells.specs.Fold.{foldBelow, orBelow, cellFrom}
@@ -15,6 +17,7 @@ use Rattle.cells.specs.Waits.{nextTicket, waitCell, countAt, listOf, namesOf}
 use Rattle.cells.specs.Calls.{putHeader, putList, queueCells, madeCells}
 use Rattle.cells.specs.Validity.{unusedZero, validFree}
 use Rattle.refine.proofs.Shapes.{or-all-zero, all-same}
+use Rattle.refine.proofs.Validity.{list-length, list-at}
 
 -- a handle or not
 pub named-zero : (t : List ℕ) (h : ℕ) → h ≡ 0 → noFields ≡ named t h
@@ -102,3 +105,14 @@ queued-is t p mode list owner clock alert timeout e a b = rw (b, a, e)
 pub made-is : (t : List ℕ) {u : List ℕ} {n : ℕ} → n ≡ tableLength → u ≡ foldBelow (λ v i. set v i 0) t n → set u 0 1 ≡ madeCells t
 unfolding madeCells
 made-is t e f = rw (f, e)
+
+-- one more number copied
+pub copied : (wide list : List ℕ) (i : ℕ) → take i wide ≡ take i list → i < length wide → i < length list → take (i + 1) (set wide i (getD list i 0)) ≡ take (i + 1) list
+copied wide list i e l m = rw (add-one, take-suc-set wide i (getD list i 0) l, take-suc list i 0 m, e)
+
+pub listed-is : (t : List ℕ) (p i : ℕ) {x : ℕ} → length t ≡ tableLength → p < waitPlaces → i < countAt t p → x ≡ inWait t p (headerSize + i) → x ≡ getD (listOf t p) i 0
+listed-is t p i l h b e = e ∙ sym (list-at t l p h i b)
+
+pub copy-is : (t : List ℕ) (p i : ℕ) (copy : List ℕ) {list : List ℕ} → length t ≡ tableLength → p < waitPlaces → list ≡ listOf t p → i ≡ length list → take i copy ≡ take i list → take (countAt t p) copy ≡ listOf t p
+copy-is t p i copy {list} l h e z c = let n : countAt t p ≡ i = sym (list-length t l p h) ∙ ap length (sym e) ∙ sym z in
+    rw n (c ∙ ap (λ (k : ℕ). take k list) z ∙ take-length list ∙ e)

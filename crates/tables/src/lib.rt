@@ -1,7 +1,7 @@
 // The cells of the lent tables: objects and waits, read, written and searched. Only this crate knows where a cell stands.
 ghost use mathlib.Core.Path.{_≡_};
 ghost use Prim.Native.Nat.{_+_, _≤_, _<_};
-ghost use lib.ListN.{length};
+ghost use lib.ListN.{length, getD, take};
 ghost use Rattle.model.specs.Sizes.{objectPlaces, waitPlaces, maxListed, word64};
 ghost use Rattle.model.specs.Layout.{objectSize, headerSize, waitSize, waitsBase, tableLength, inWait};
 ghost use Rattle.cells.specs.Objects.{fieldsAt, putFields, named, store};
@@ -197,6 +197,29 @@ pub fn list_of(t: &[u64], p: usize) -> &[u64]
     let from = WAITS_BASE + WAIT_SIZE * p + HEADER_SIZE;
     let end = from + n;
     &t[from..end]
+}
+
+// The i-th handle of a wait's list.
+pub fn listed(t: &[u64], p: usize, i: usize) -> u64
+    requires { ⌜ (p < waitPlaces) × (i < countAt (now t) p) × (length (now t) ≡ tableLength) ⌝ }
+    ensures { λ r. ⌜ r ≡ getD (listOf (now (t .entry)) p) i 0 ⌝ }
+{
+    wait_cell(t, p, HEADER_SIZE + i)
+}
+
+// A copy of a wait's list, which stays as it is when the tables change.
+pub fn copy_list(t: &[u64], p: usize) -> [u64; MAX_LISTED]
+    requires { ⌜ (p < waitPlaces) × (length (now t) ≡ tableLength) ⌝ }
+    ensures { λ r. ⌜ (length r ≡ maxListed) × (take (countAt (now (t .entry)) p) r ≡ listOf (now (t .entry)) p) ⌝ }
+{
+    let mut copy: [u64; MAX_LISTED] = [0; MAX_LISTED];
+    let list = list_of(t, p);
+    let mut i: usize = 0;
+    while i < list.len() {
+        copy[i] = list[i];
+        i += 1;
+    }
+    copy
 }
 
 // All that a wait names: the alert, then the list.

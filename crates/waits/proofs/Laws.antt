@@ -5,9 +5,7 @@ use mathlib.Core.Bool.{Bool, true, false, not, _&&_, _||_, cond, or-assoc, or-tr
 use mathlib.Core.List.{List, [], _∷_}
 use native.Mathlib.Omega.{arith}
 use native.Mathlib.Nat.{le-trans}
-use lib.ListN.{length, getD, set, take}
-use lib.Seq.{take-suc, take-suc-set}
-use native.Mathlib.Numerals.{add-one}
+use lib.ListN.{length}
 use lib.Dec.{eqb, ltb, leb}
 use borrow.Author.Tests.{lt-ltb, le-ltb, le-leb, lt-leb, eq-eqb, ne-eqb, ltb-true, ltb-false}
 use Rattle.model.specs.Sizes.{waitPlaces, maxListed, word64, never}
@@ -94,10 +92,6 @@ module _ (t : List ℕ) (mode : ℕ) (list : List ℕ) (asking flags alert timeo
     unfolding waitOnCells
     wait-acts {copy} {bad} k e y q h = let z : badWait mode list asking flags pad alert t ≡ false = ap (λ (x : List ℕ). badWait mode x asking flags pad alert t) (sym k) ∙ sym e ∙ y in
         h ∙ ap (λ (x : List ℕ). actCells mode x asking flags alert timeout time t l) k ∙ rw z
-
--- one more number copied
-pub copied : (wide list : List ℕ) (i : ℕ) → take i wide ≡ take i list → i < length wide → i < length list → take (i + 1) (set wide i (getD list i 0)) ≡ take (i + 1) list
-copied wide list i e l m = rw (add-one, take-suc-set wide i (getD list i 0) l, take-suc list i 0 m, e)
 
 -- the index of a wait's answer stays within a list
 later-index : (t : List ℕ) (mode : ℕ) (list : List ℕ) (asking flags alert timeout time : ℕ) (l : Lent) → (laterCells mode list asking flags alert timeout time t l) .first ≡ 0

@@ -1,4 +1,4 @@
-use Rattle.waits.proofs.Laws.{copied}
+use Rattle.tables.proofs.Laws.{copied}
 use Rattle.model.specs.Sizes.{maxListed}
 use lib.Seq.{take-length}
 use lib.ListN.{length, take, length-set}
