@@ -12,7 +12,7 @@ use Rattle.model.proofs.Logic.{byBool, clash, not-true, not-false}
 use Rattle.refine.proofs.Fold.{all-at}
 use Rattle.cells.specs.Fold.{foldBelow, allBelow, searchFrom}
 use Rattle.cells.specs.Objects.{Fields, named, store, signaledFields, acquiredFields, abandonedFields}
-use Rattle.cells.specs.Attempt.{signaledAt, acquireAt, abandonedAt, lookAny, lookAll, acquireFirst, abandonedFirst, Tried, missed, took, takeOne, byAlert, tryAny, tryAll, tryList}
+use Rattle.cells.specs.Attempt.{signaledAt, acquireAt, abandonedAt, lookAny, lookAll, acquireFirst, abandonedFirst, Tried, missed, took, takeOne, takeAll, byAlert, tryAny, tryAll, tryList}
 use Rattle.cells.proofs.Fold.{fold-none, fold-more, search-found, search-on, search-end}
 
 -- one object
@@ -86,6 +86,9 @@ module _ (t : List ℕ) (asking : ℕ) where
   unfolding takeOne
   taken h i q d e = rw (e, d, q)
 
+  pub taken-all : (list : List ℕ) {dead : Bool} {a : ℕ} {u : List ℕ} → u ≡ acquireFirst t asking list (length list) → dead ≡ abandonedFirst t asking list (length list) → a ≡ cond dead 4 0 → record { served = true; answer = a; index = 0; tables = u } ≡ takeAll t asking list
+  taken-all list q d e = rw (e, d, q)
+
   pub alert-took : (alert n : ℕ) {b : Bool} → b ≡ signaledAt t asking alert → b ≡ true → takeOne t asking alert n ≡ byAlert t asking alert n
   unfolding byAlert
   alert-took alert n e y = rw (sym e, y)
@@ -103,10 +106,9 @@ module _ (t : List ℕ) (asking : ℕ) where
     unfolding tryAny
     any-left {i} e l = rw (sym e, le-ltb i (length list) l)
 
-    pub all-took : {b dead : Bool} {a : ℕ} {u : List ℕ} → b ≡ lookAll t asking list → b ≡ true → u ≡ acquireFirst t asking list (length list) → dead ≡ abandonedFirst t asking list (length list) → a ≡ cond dead 4 0
-        → record { served = true; answer = a; index = 0; tables = u } ≡ tryAll t asking alert list
+    pub all-took : {b : Bool} → b ≡ lookAll t asking list → b ≡ true → takeAll t asking list ≡ tryAll t asking alert list
     unfolding tryAll
-    all-took e y q d a = rw (sym e, y, a, d, q)
+    all-took e y = rw (sym e, y)
 
     pub all-left : {b : Bool} → b ≡ lookAll t asking list → b ≡ false → byAlert t asking alert (length list) ≡ tryAll t asking alert list
     unfolding tryAll

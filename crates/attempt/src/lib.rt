@@ -5,7 +5,7 @@ ghost use mathlib.Core.Bool.{cond};
 ghost use lib.ListN.{length};
 ghost use Rattle.model.specs.Calls.{timeUp};
 ghost use Rattle.model.specs.Layout.{tableLength};
-ghost use Rattle.cells.specs.Attempt.{signaledAt, acquireAt, abandonedAt, lookAny, lookAll, acquireFirst, abandonedFirst, takeOne, byAlert, tryAny, tryAll, tryList};
+ghost use Rattle.cells.specs.Attempt.{signaledAt, acquireAt, abandonedAt, lookAny, lookAll, acquireFirst, abandonedFirst, takeOne, takeAll, byAlert, tryAny, tryAll, tryList};
 ghost use Rattle.attempt.specs.Values.{triedBy};
 
 const NEVER: u64 = 18446744073709551615;
@@ -124,6 +124,20 @@ pub fn take_one(t: &mut [u64], asking: u64, h: u64, i: u64) -> Attempted
     }
 }
 
+// Every object of the list is acquired; the wait is served with index 0.
+pub fn take_list(t: &mut [u64], asking: u64, list: &[u64]) -> Attempted
+    requires { ⌜ length (now t) ≡ tableLength ⌝ }
+    ensures { λ r. ⌜ triedBy r (now (t .exit)) ≡ takeAll (now (t .entry)) asking (now (list .entry)) ⌝ }
+{
+    let dead = acquire_list(t, asking, list);
+    let answer = answer_of(dead);
+    Attempted {
+        served: true,
+        answer,
+        index: 0,
+    }
+}
+
 // The alert, after a list of n handles.
 pub fn by_alert(t: &mut [u64], asking: u64, alert: u64, n: u64) -> Attempted
     requires { ⌜ length (now t) ≡ tableLength ⌝ }
@@ -159,13 +173,7 @@ fn try_all(t: &mut [u64], asking: u64, alert: u64, list: &[u64]) -> Attempted
     let n = list.len();
     let ready = look_all(t, asking, list);
     if ready {
-        let dead = acquire_list(t, asking, list);
-        let answer = answer_of(dead);
-        return Attempted {
-            served: true,
-            answer,
-            index: 0,
-        };
+        return take_list(t, asking, list);
     }
     by_alert(t, asking, alert, n as u64)
 }

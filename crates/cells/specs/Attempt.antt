@@ -48,6 +48,10 @@ took dead i t = record { served = true; answer = cond dead 4 0; index = i; table
 unfoldable pub takeOne : List ℕ → ℕ → ℕ → ℕ → Tried
 takeOne t asking h i = took (abandonedAt t h) i (acquireAt t asking h)
 
+-- every object of the list
+abbrev pub takeAll : List ℕ → ℕ → List ℕ → Tried
+takeAll t asking list = took (abandonedFirst t asking list (length list)) 0 (acquireFirst t asking list (length list))
+
 -- the alert, tried after a list of n handles
 unfoldable pub byAlert : List ℕ → ℕ → ℕ → ℕ → Tried
 byAlert t asking alert n = cond (signaledAt t asking alert) (takeOne t asking alert n) (missed t)
@@ -57,8 +61,7 @@ tryAny t asking alert list = let i = lookAny t asking list in
     cond (ltb i (length list)) (takeOne t asking (getD list i 0) i) (byAlert t asking alert (length list))
 
 unfoldable pub tryAll : List ℕ → ℕ → ℕ → List ℕ → Tried
-tryAll t asking alert list = cond (lookAll t asking list)
-    (took (abandonedFirst t asking list (length list)) 0 (acquireFirst t asking list (length list))) (byAlert t asking alert (length list))
+tryAll t asking alert list = cond (lookAll t asking list) (takeAll t asking list) (byAlert t asking alert (length list))
 
 -- mode 0 is any
 unfoldable pub tryList : List ℕ → ℕ → ℕ → ℕ → List ℕ → Tried

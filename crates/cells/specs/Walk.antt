@@ -25,6 +25,10 @@ report p answer index t s = walked (s .count + 1) (clearWait t p) (putRecord (s 
 abbrev pub Concern : Type 0
 Concern = List ℕ → ℕ → Bool
 
+-- a wait that was served leaves and is reported, by its ticket, in record k
+abbrev pub settled : Tried → ℕ → ℕ → ℕ → List ℕ → Walked
+settled r p k ticket wake = cond (r .served) (walked (k + 1) (clearWait (r .tables) p) (putRecord wake k ticket (r .answer) (r .index))) (walked k (r .tables) wake)
+
 -- a wait that is concerned is tried, and if served leaves and is reported
 unfoldable pub settle : Tried → ℕ → Walked → Walked
 settle r p s = cond (r .served) (report p (r .answer) (r .index) (r .tables) s) s

@@ -10,8 +10,13 @@ use Rattle.model.specs.Sizes.{waitPlaces}
 use Rattle.model.specs.Calls.{timeUp}
 use Rattle.model.proofs.Logic.{not-true, not-false}
 use Rattle.cells.specs.Fold.{foldBelow}
-use Rattle.cells.specs.Waits.{ticketAt, clockAt, timeoutAt, better, lowest, nextWait, clearWait, putRecord}
-use Rattle.cells.specs.Walk.{dueAt, walked, report, endCells}
+use lib.ListN.{length, getD, take}
+use Rattle.model.specs.Layout.{tableLength}
+use Rattle.refine.proofs.Validity.{list-length}
+use Rattle.cells.specs.Attempt.{Tried, lookAny, takeOne, takeAll, byAlert, tryAny}
+use Rattle.attempt.proofs.Laws.{any-took, any-left}
+use Rattle.cells.specs.Waits.{ticketAt, ownerAt, clockAt, timeoutAt, countAt, alertAt, listOf, better, lowest, nextWait, clearWait, putRecord}
+use Rattle.cells.specs.Walk.{dueAt, walked, report, settled, endCells}
 use Rattle.cells.proofs.Fold.{fold-none, fold-more}
 
 module _ (t : List ℕ) (passes : Bool) (best i : ℕ) where
@@ -66,3 +71,30 @@ module _ (clock time : ℕ) (t wake : List ℕ) (k : ℕ) where
   pub end-last : waitPlaces ≤ k → endCells (waitPlaces - k) clock time (walked k t wake) ≡ walked k t wake
   unfolding endCells
   end-last h = let e : waitPlaces - k ≡ 0 = omega arith in rw e
+
+-- the attempt of the wait at place p
+module _ (t : List ℕ) (p : ℕ) where
+  pub looked-at : {asking i : ℕ} {list : List ℕ} → asking ≡ ownerAt t p → list ≡ listOf t p → i ≡ lookAny t asking list → i ≡ lookAny t (ownerAt t p) (listOf t p)
+  looked-at a b e = e ∙ rw (a, b)
+
+  pub taken-at : (copy : List ℕ) {asking n : ℕ} {x : Tried} → asking ≡ ownerAt t p → n ≡ countAt t p → take (countAt t p) copy ≡ listOf t p → x ≡ takeAll t asking (take n copy) → x ≡ takeAll t (ownerAt t p) (listOf t p)
+  taken-at copy a b c e = e ∙ rw (a, b, c)
+
+  module _ (l : length t ≡ tableLength) (h : p < waitPlaces) where
+    pub alerted-at : {asking alert n : ℕ} {x : Tried} → asking ≡ ownerAt t p → alert ≡ alertAt t p → n ≡ countAt t p → x ≡ byAlert t asking alert n → x ≡ byAlert t (ownerAt t p) (alertAt t p) (length (listOf t p))
+    alerted-at a b c e = e ∙ rw (a, b, c, list-length t l p h)
+
+    module _ {i n : ℕ} (e : i ≡ lookAny t (ownerAt t p) (listOf t p)) (c : n ≡ countAt t p) {x : Tried} where
+      pub any-alerted : n ≤ i → x ≡ byAlert t (ownerAt t p) (alertAt t p) (length (listOf t p)) → x ≡ tryAny t (ownerAt t p) (alertAt t p) (listOf t p)
+      any-alerted b y = y ∙ any-left t (ownerAt t p) (alertAt t p) (listOf t p) e (let z = list-length t l p h in omega arith)
+
+      pub any-taken : {asking handle : ℕ} → i < n → asking ≡ ownerAt t p → handle ≡ getD (listOf t p) i 0 → x ≡ takeOne t asking handle i → x ≡ tryAny t (ownerAt t p) (alertAt t p) (listOf t p)
+      any-taken b a q y = y ∙ rw (a, q) (any-took t (ownerAt t p) (alertAt t p) (listOf t p) e (let z = list-length t l p h in omega arith))
+
+-- a wait that was tried
+module _ (r : Tried) (p k ticket : ℕ) (wake : List ℕ) where
+  pub settled-not : not (r .served) ≡ true → walked k (r .tables) wake ≡ settled r p k ticket wake
+  settled-not e = rw (not-true (r .served) e)
+
+  pub settled-left : {u v : List ℕ} → not (r .served) ≡ false → u ≡ clearWait (r .tables) p → v ≡ putRecord wake k ticket (r .answer) (r .index) → walked (k + 1) u v ≡ settled r p k ticket wake
+  settled-left e a b = rw (not-false (r .served) e, a, b)

@@ -4,8 +4,11 @@ ghost use Prim.Native.Nat.{_≤_, _<_};
 ghost use lib.ListN.{length};
 ghost use Rattle.model.specs.Sizes.{waitPlaces, wakeLength};
 ghost use Rattle.model.specs.Layout.{tableLength};
-ghost use Rattle.cells.specs.Waits.{better, lowest, nextWait, putRecord, clearWait};
-ghost use Rattle.cells.specs.Walk.{dueAt, walked, endCells};
+ghost use Rattle.cells.specs.Waits.{better, lowest, nextWait, putRecord, clearWait, ownerAt, alertAt, listOf};
+ghost use Rattle.cells.specs.Attempt.{lookAny, byAlert, takeAll, tryAny};
+ghost use Rattle.cells.specs.Walk.{dueAt, walked, settled, endCells};
+ghost use Rattle.attempt.specs.Values.{triedBy};
+use attempt::Attempted;
 
 // Place i instead of the best so far, where it passes and its ticket is below the best one's; WAIT_PLACES is none.
 fn better(t: &[u64], passes: bool, best: usize, i: usize) -> usize
@@ -104,4 +107,65 @@ pub fn end_due(t: &mut [u64], wake: &mut [u64], clock: u64, time: u64) -> usize
         k += 1;
     }
     k
+}
+
+// ---- the attempt of a queued wait
+
+// The lowest signaled index of its list; the length where there is none.
+fn look_at(t: &[u64], p: usize) -> usize
+    requires { ⌜ (p < waitPlaces) × (length (now t) ≡ tableLength) ⌝ }
+    ensures { λ r. ⌜ r ≡ lookAny (now (t .entry)) (ownerAt (now (t .entry)) p) (listOf (now (t .entry)) p) ⌝ }
+{
+    let asking = tables::owner_at(t, p);
+    let list = tables::list_of(t, p);
+    attempt::look_any(t, asking, list)
+}
+
+// The alert, after the list.
+fn alert_at(t: &mut [u64], p: usize) -> Attempted
+    requires { ⌜ (p < waitPlaces) × (length (now t) ≡ tableLength) ⌝ }
+    ensures { λ r. ⌜ triedBy r (now (t .exit)) ≡ byAlert (now (t .entry)) (ownerAt (now (t .entry)) p) (alertAt (now (t .entry)) p) (length (listOf (now (t .entry)) p)) ⌝ }
+{
+    let asking = tables::owner_at(t, p);
+    let alert = tables::alert_at(t, p);
+    let n = tables::count_at(t, p);
+    attempt::by_alert(t, asking, alert, n as u64)
+}
+
+// The attempt of a wait for any.
+fn any_at(t: &mut [u64], p: usize) -> Attempted
+    requires { ⌜ (p < waitPlaces) × (length (now t) ≡ tableLength) ⌝ }
+    ensures { λ r. ⌜ triedBy r (now (t .exit)) ≡ tryAny (now (t .entry)) (ownerAt (now (t .entry)) p) (alertAt (now (t .entry)) p) (listOf (now (t .entry)) p) ⌝ }
+{
+    let i = look_at(t, p);
+    let n = tables::count_at(t, p);
+    if n <= i {
+        return alert_at(t, p);
+    }
+    let asking = tables::owner_at(t, p);
+    let h = tables::listed(t, p, i);
+    attempt::take_one(t, asking, h, i as u64)
+}
+
+// A wait for all takes every object of its list; they are signaled.
+fn all_at(t: &mut [u64], p: usize) -> Attempted
+    requires { ⌜ (p < waitPlaces) × (length (now t) ≡ tableLength) ⌝ }
+    ensures { λ r. ⌜ triedBy r (now (t .exit)) ≡ takeAll (now (t .entry)) (ownerAt (now (t .entry)) p) (listOf (now (t .entry)) p) ⌝ }
+{
+    let asking = tables::owner_at(t, p);
+    let n = tables::count_at(t, p);
+    let list = tables::copy_list(t, p);
+    attempt::take_list(t, asking, &list[..n])
+}
+
+// A wait that was served leaves the queue and is told in record k; how many have been told.
+fn settle(t: &mut [u64], wake: &mut [u64], p: usize, k: usize, ticket: u64, a: Attempted) -> usize
+    requires { ⌜ (p < waitPlaces) × (k < waitPlaces) × (length (now t) ≡ tableLength) × (wakeLength ≤ length (now wake)) ⌝ }
+    ensures { λ r. ⌜ walked r (now (t .exit)) (now (wake .exit)) ≡ settled (triedBy a (now (t .entry))) p k ticket (now (wake .entry)) ⌝ }
+{
+    if !a.served {
+        return k;
+    }
+    leave(t, wake, p, k, ticket, a.answer as u64, a.index);
+    k + 1
 }

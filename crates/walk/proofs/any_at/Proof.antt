@@ -1,0 +1,68 @@
+use Rattle.walk.proofs.Laws.{any-alerted, any-taken}
+use native.Mathlib.Omega.{arith}
+use borrow.Author.Needs.{needs}
+use Rattle.walk.proofs.any_at.Statement.{statement}
+use Rattle.walk.proofs.any_at.Tie as tie
+use Rattle.walk.proofs.any_at.Reads as reads
+use Rattle.walk.proofs.any_at.Lts as lts
+use Rattle.attempt.proofs.take_one.Reads as take-one-reads
+use Rattle.tables.proofs.count_at.Reads as count-at-reads
+use Rattle.tables.proofs.listed.Reads as listed-reads
+use Rattle.tables.proofs.owner_at.Reads as owner-at-reads
+use Rattle.walk.proofs.alert_at.Reads as alert-at-reads
+use Rattle.walk.proofs.look_at.Reads as look-at-reads
+
+-- src/lib.rt:140:9
+look-at-requires : tie.Need-look-at-requires
+look-at-requires c κs = search needs
+
+-- src/lib.rt:141:9
+count-at-requires : tie.Need-count-at-requires
+count-at-requires c κs = search needs
+
+-- src/lib.rt:143:9
+alert-at-requires : tie.Need-alert-at-requires
+alert-at-requires c κs = search needs
+
+-- src/lib.rt:143:9
+same-length : tie.Need-same-length
+same-length c = search needs
+
+-- src/lib.rt:143:9
+returns : tie.Need-returns
+returns c = let a = c .before .before .before .before .before .before .before .before .before .before .args in any-alerted (a .t .now) (a .p) (c .before .before .before .before .before .before .before .before .before .before .pre .1) (c .before .before .before .before .before .before .before .before .before .before .pre .0) (c .before .before .before .before .before .before .before .look-at .ensures) (c .before .before .before .before .before .count-at .ensures) (c .before .before .before .before .if1 .taken) (c .before .before .alert-at .ensures)
+
+-- src/lib.rt:145:9
+owner-at-requires : tie.Need-owner-at-requires
+owner-at-requires c κs = search needs
+
+-- src/lib.rt:146:9
+listed-requires : tie.Need-listed-requires
+listed-requires c κs = (c .before .before .before .before .before .before .before .before .before .pre .0, rw (c .before .before .before .before .count-at .ensures) at (c .before .before .before .if1 .left), c .before .before .before .before .before .before .before .before .before .pre .1)
+
+-- src/lib.rt:147:5
+take-one-requires : tie.Need-take-one-requires
+take-one-requires c κs = search needs
+
+-- src/lib.rt:136:1
+same-length-2 : tie.Need-same-length-2
+same-length-2 c = search needs
+
+-- src/lib.rt:136:1
+returns-2 : tie.Need-returns-2
+returns-2 c = let a = c .before .before .before .before .before .before .before .before .before .before .before .before .before .before .args in any-taken (a .t .now) (a .p) (c .before .before .before .before .before .before .before .before .before .before .before .before .before .before .pre .1) (c .before .before .before .before .before .before .before .before .before .before .before .before .before .before .pre .0) (c .before .before .before .before .before .before .before .before .before .before .before .look-at .ensures) (c .before .before .before .before .before .before .before .before .before .count-at .ensures) (c .before .before .before .before .before .before .before .before .if1 .left) (c .before .before .before .before .before .before .owner-at .ensures) (c .before .before .before .before .listed .ensures) (c .before .before .take-one .ensures)
+
+pub any-at-spec : {M : Type 1} → statement M
+any-at-spec =
+    tie.close
+    (tie.spec
+    look-at-requires
+    count-at-requires
+    alert-at-requires
+    same-length
+    returns
+    owner-at-requires
+    listed-requires
+    take-one-requires
+    same-length-2
+    returns-2)
