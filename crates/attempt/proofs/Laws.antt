@@ -123,11 +123,11 @@ module _ (t : List ℕ) (asking : ℕ) where
     list-all {mode} n = rw (ne-eqb mode 0 n)
 
 -- an attempt that fails alters nothing
-alert-same : (t : List ℕ) (asking alert n : ℕ) → (byAlert t asking alert n) .served ≡ false → (byAlert t asking alert n) .tables ≡ t
+pub alert-same : (t : List ℕ) (asking alert n : ℕ) → (byAlert t asking alert n) .served ≡ false → (byAlert t asking alert n) .tables ≡ t
 unfolding byAlert takeOne
 alert-same t asking alert n e = byBool (signaledAt t asking alert) (λ y. clash refl (let q : true ≡ false = rw y at e in q)) (λ m. rw m)
 
-any-same : (t : List ℕ) (asking alert : ℕ) (list : List ℕ) → (tryAny t asking alert list) .served ≡ false → (tryAny t asking alert list) .tables ≡ t
+pub any-same : (t : List ℕ) (asking alert : ℕ) (list : List ℕ) → (tryAny t asking alert list) .served ≡ false → (tryAny t asking alert list) .tables ≡ t
 unfolding tryAny takeOne
 any-same t asking alert list e = byBool (ltb (lookAny t asking list) (length list)) (λ y. clash refl (let q : true ≡ false = rw y at e in q))
     (λ n. rw n (alert-same t asking alert (length list) (let q : (byAlert t asking alert (length list)) .served ≡ false = rw n at e in q)))

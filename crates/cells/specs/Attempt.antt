@@ -67,6 +67,16 @@ tryAll t asking alert list = cond (lookAll t asking list) (takeAll t asking list
 unfoldable pub tryList : List ℕ → ℕ → ℕ → ℕ → List ℕ → Tried
 tryList t mode asking alert list = cond (eqb mode 0) (tryAny t asking alert list) (tryAll t asking alert list)
 
--- the attempt of the wait at place p
+-- the wait at place p: the attempt of one for any, its alert after its list, all that its list names
+abbrev pub anyAt : List ℕ → ℕ → Tried
+anyAt t p = tryAny t (ownerAt t p) (alertAt t p) (listOf t p)
+
+abbrev pub alertOf : List ℕ → ℕ → Tried
+alertOf t p = byAlert t (ownerAt t p) (alertAt t p) (length (listOf t p))
+
+abbrev pub allAt : List ℕ → ℕ → Tried
+allAt t p = takeAll t (ownerAt t p) (listOf t p)
+
+-- its attempt
 unfoldable pub tryAt : List ℕ → ℕ → Tried
 tryAt t p = tryList t (modeAt t p) (ownerAt t p) (alertAt t p) (listOf t p)

@@ -4,9 +4,9 @@ ghost use Prim.Native.Nat.{_≤_, _<_};
 ghost use lib.ListN.{length};
 ghost use Rattle.model.specs.Sizes.{waitPlaces, wakeLength};
 ghost use Rattle.model.specs.Layout.{tableLength};
-ghost use Rattle.cells.specs.Waits.{better, lowest, nextWait, putRecord, clearWait, ownerAt, alertAt, listOf};
-ghost use Rattle.cells.specs.Attempt.{lookAny, byAlert, takeAll, tryAny};
-ghost use Rattle.cells.specs.Walk.{dueAt, walked, settled, endCells};
+ghost use Rattle.cells.specs.Waits.{better, lowest, nextWait, putRecord, clearWait, ownerAt, listOf};
+ghost use Rattle.cells.specs.Attempt.{lookAny, anyAt, alertOf, allAt};
+ghost use Rattle.cells.specs.Walk.{dueAt, walked, settled, settle, wakeCells, endCells};
 ghost use Rattle.attempt.specs.Values.{triedBy};
 use attempt::Attempted;
 
@@ -122,9 +122,9 @@ fn look_at(t: &[u64], p: usize) -> usize
 }
 
 // The alert, after the list.
-fn alert_at(t: &mut [u64], p: usize) -> Attempted
+fn alert_of(t: &mut [u64], p: usize) -> Attempted
     requires { ⌜ (p < waitPlaces) × (length (now t) ≡ tableLength) ⌝ }
-    ensures { λ r. ⌜ triedBy r (now (t .exit)) ≡ byAlert (now (t .entry)) (ownerAt (now (t .entry)) p) (alertAt (now (t .entry)) p) (length (listOf (now (t .entry)) p)) ⌝ }
+    ensures { λ r. ⌜ triedBy r (now (t .exit)) ≡ alertOf (now (t .entry)) p ⌝ }
 {
     let asking = tables::owner_at(t, p);
     let alert = tables::alert_at(t, p);
@@ -135,12 +135,12 @@ fn alert_at(t: &mut [u64], p: usize) -> Attempted
 // The attempt of a wait for any.
 fn any_at(t: &mut [u64], p: usize) -> Attempted
     requires { ⌜ (p < waitPlaces) × (length (now t) ≡ tableLength) ⌝ }
-    ensures { λ r. ⌜ triedBy r (now (t .exit)) ≡ tryAny (now (t .entry)) (ownerAt (now (t .entry)) p) (alertAt (now (t .entry)) p) (listOf (now (t .entry)) p) ⌝ }
+    ensures { λ r. ⌜ triedBy r (now (t .exit)) ≡ anyAt (now (t .entry)) p ⌝ }
 {
     let i = look_at(t, p);
     let n = tables::count_at(t, p);
     if n <= i {
-        return alert_at(t, p);
+        return alert_of(t, p);
     }
     let asking = tables::owner_at(t, p);
     let h = tables::listed(t, p, i);
@@ -150,7 +150,7 @@ fn any_at(t: &mut [u64], p: usize) -> Attempted
 // A wait for all takes every object of its list; they are signaled.
 fn all_at(t: &mut [u64], p: usize) -> Attempted
     requires { ⌜ (p < waitPlaces) × (length (now t) ≡ tableLength) ⌝ }
-    ensures { λ r. ⌜ triedBy r (now (t .exit)) ≡ takeAll (now (t .entry)) (ownerAt (now (t .entry)) p) (listOf (now (t .entry)) p) ⌝ }
+    ensures { λ r. ⌜ triedBy r (now (t .exit)) ≡ allAt (now (t .entry)) p ⌝ }
 {
     let asking = tables::owner_at(t, p);
     let n = tables::count_at(t, p);
@@ -168,4 +168,75 @@ fn settle(t: &mut [u64], wake: &mut [u64], p: usize, k: usize, ticket: u64, a: A
     }
     leave(t, wake, p, k, ticket, a.answer as u64, a.index);
     k + 1
+}
+
+fn serve_any(t: &mut [u64], wake: &mut [u64], p: usize, k: usize) -> usize
+    requires { ⌜ (p < waitPlaces) × (k < waitPlaces) × (length (now t) ≡ tableLength) × (wakeLength ≤ length (now wake)) ⌝ }
+    ensures { λ r. ⌜ walked r (now (t .exit)) (now (wake .exit)) ≡ settle (anyAt (now (t .entry)) p) p (walked k (now (t .entry)) (now (wake .entry))) ⌝ }
+{
+    let ticket = tables::ticket_at(t, p);
+    let a = any_at(t, p);
+    settle(t, wake, p, k, ticket, a)
+}
+
+fn serve_alert(t: &mut [u64], wake: &mut [u64], p: usize, k: usize) -> usize
+    requires { ⌜ (p < waitPlaces) × (k < waitPlaces) × (length (now t) ≡ tableLength) × (wakeLength ≤ length (now wake)) ⌝ }
+    ensures { λ r. ⌜ walked r (now (t .exit)) (now (wake .exit)) ≡ settle (alertOf (now (t .entry)) p) p (walked k (now (t .entry)) (now (wake .entry))) ⌝ }
+{
+    let ticket = tables::ticket_at(t, p);
+    let a = alert_of(t, p);
+    settle(t, wake, p, k, ticket, a)
+}
+
+fn serve_all(t: &mut [u64], wake: &mut [u64], p: usize, k: usize) -> usize
+    requires { ⌜ (p < waitPlaces) × (k < waitPlaces) × (length (now t) ≡ tableLength) × (wakeLength ≤ length (now wake)) ⌝ }
+    ensures { λ r. ⌜ walked r (now (t .exit)) (now (wake .exit)) ≡ settle (allAt (now (t .entry)) p) p (walked k (now (t .entry)) (now (wake .entry))) ⌝ }
+{
+    let ticket = tables::ticket_at(t, p);
+    let a = all_at(t, p);
+    settle(t, wake, p, k, ticket, a)
+}
+
+// ---- the walk
+
+// After object h has changed: the queued waits once, lowest ticket first. Those whose list or alert names h are tried against
+// the objects as they then stand. How many were served and told.
+pub fn wake(t: &mut [u64], wake: &mut [u64], h: u64) -> usize
+    requires { ⌜ (length (now t) ≡ tableLength) × (wakeLength ≤ length (now wake)) ⌝ }
+    ensures { λ r. ⌜ walked r (now (t .exit)) (now (wake .exit)) ≡ wakeCells (now (t .entry)) h (now (wake .entry)) ⌝ }
+{
+    let mut last: u64 = 0;
+    let mut k: usize = 0;
+    let mut turn: usize = 0;
+    'waits: while turn < tables::WAIT_PLACES {
+        turn += 1;
+        let p = next_wait(t, last);
+        if tables::WAIT_PLACES <= p {
+            return k;
+        }
+        last = tables::ticket_at(t, p);
+        let named = tables::names_at(t, h, p);
+        if !named {
+            continue 'waits;
+        }
+        let mode = tables::mode_at(t, p);
+        if mode == 0 {
+            k = serve_any(t, wake, p, k);
+            continue 'waits;
+        }
+        let asking = tables::owner_at(t, p);
+        let n = tables::count_at(t, p);
+        let mut i: usize = 0;
+        while i < n {
+            let x = tables::listed(t, p, i);
+            let here = attempt::signaled(t, asking, x);
+            if !here {
+                k = serve_alert(t, wake, p, k);
+                continue 'waits;
+            }
+            i += 1;
+        }
+        k = serve_all(t, wake, p, k);
+    }
+    k
 }

@@ -9,7 +9,7 @@ use Rattle.attempt.proofs.take_one.Reads as take-one-reads
 use Rattle.tables.proofs.count_at.Reads as count-at-reads
 use Rattle.tables.proofs.listed.Reads as listed-reads
 use Rattle.tables.proofs.owner_at.Reads as owner-at-reads
-use Rattle.walk.proofs.alert_at.Reads as alert-at-reads
+use Rattle.walk.proofs.alert_of.Reads as alert-of-reads
 use Rattle.walk.proofs.look_at.Reads as look-at-reads
 
 -- src/lib.rt:140:9
@@ -21,8 +21,8 @@ count-at-requires : tie.Need-count-at-requires
 count-at-requires c κs = search needs
 
 -- src/lib.rt:143:9
-alert-at-requires : tie.Need-alert-at-requires
-alert-at-requires c κs = search needs
+alert-of-requires : tie.Need-alert-of-requires
+alert-of-requires c κs = search needs
 
 -- src/lib.rt:143:9
 same-length : tie.Need-same-length
@@ -30,7 +30,7 @@ same-length c = search needs
 
 -- src/lib.rt:143:9
 returns : tie.Need-returns
-returns c = let a = c .before .before .before .before .before .before .before .before .before .before .args in any-alerted (a .t .now) (a .p) (c .before .before .before .before .before .before .before .before .before .before .pre .1) (c .before .before .before .before .before .before .before .before .before .before .pre .0) (c .before .before .before .before .before .before .before .look-at .ensures) (c .before .before .before .before .before .count-at .ensures) (c .before .before .before .before .if1 .taken) (c .before .before .alert-at .ensures)
+returns c = let a = c .before .before .before .before .before .before .before .before .before .before .args in any-alerted (a .t .now) (a .p) (c .before .before .before .before .before .before .before .before .before .before .pre .1) (c .before .before .before .before .before .before .before .before .before .before .pre .0) (c .before .before .before .before .before .before .before .look-at .ensures) (c .before .before .before .before .before .count-at .ensures) (c .before .before .before .before .if1 .taken) (c .before .before .alert-of .ensures)
 
 -- src/lib.rt:145:9
 owner-at-requires : tie.Need-owner-at-requires
@@ -58,7 +58,7 @@ any-at-spec =
     (tie.spec
     look-at-requires
     count-at-requires
-    alert-at-requires
+    alert-of-requires
     same-length
     returns
     owner-at-requires
