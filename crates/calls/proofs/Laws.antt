@@ -11,14 +11,9 @@ use Rattle.cells.specs.Fold.{someBelow}
 use Rattle.cells.specs.Objects.{Fields, noFields, putFields, named, store, Changed, switchFields}
 use Rattle.cells.specs.Waits.{ticketAt, namesAt, clearWait}
 use Rattle.cells.specs.Validity.{occupiedAt, validCells}
-use Rattle.refine.proofs.Validity.{Small, named-small}
 use Rattle.cells.specs.Calls.{answered, refusedWith, emptyObject, createCells, busyAt, closeCells, readPair, readCells, resetCells, ticketPlace, cancelCells}
 use native.Mathlib.Omega.{arith}
 use Rattle.model.proofs.Logic.{not-true, not-false}
-
--- the numbers of an object of valid tables have 32 bits
-pub small-of : (t : List ℕ) (h : ℕ) (x : Fields) → x ≡ named t h → validCells t ≡ true → Small x
-small-of t h x o v = rw o (named-small t h v)
 
 module _ (t : List ℕ) (l : Lent) where
   -- creating

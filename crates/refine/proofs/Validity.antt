@@ -290,5 +290,8 @@ fields-small x v = byBool (eqb (x .kind) 0) (λ y. let r = v .zeros (eqb-true _ 
     kind-left : (k : ℕ) → k ≤ 3 → (k ≡ 0 → ⊥) → (k ≡ 1 → ⊥) → (k ≡ 2 → ⊥) → k ≡ 3
     kind-left k l a b c = omega (arith, a, b, c)
 
-pub named-small : (t : List ℕ) (h : ℕ) → validCells t ≡ true → Small (named t h)
+named-small : (t : List ℕ) (h : ℕ) → validCells t ≡ true → Small (named t h)
 named-small t h e = handle-of t h (λ z. rw z (omega arith, omega arith, omega arith)) (λ a b. rw (named-place t h a b) (fields-small (fieldsAt t (h - 1)) (lines-to (fieldsAt t (h - 1)) ((checked t e) .2 (h - 1) (omega arith)))))
+
+pub small-of : (t : List ℕ) (h : ℕ) (x : Fields) → x ≡ named t h → validCells t ≡ true → Small x
+small-of t h x o v = rw o (named-small t h v)

@@ -94,7 +94,7 @@ fn leave(t: &mut [u64], wake: &mut [u64], p: usize, k: usize, ticket: u64, answe
 // Every wait on this clock whose time is up ends with 5, lowest ticket first; how many.
 pub fn end_due(t: &mut [u64], wake: &mut [u64], clock: u64, time: u64) -> usize
     requires { ⌜ (length (now t) ≡ tableLength) × (wakeLength ≤ length (now wake)) ⌝ }
-    ensures { λ r. ⌜ walked r (now (t .exit)) (now (wake .exit)) ≡ endCells waitPlaces clock time (walked 0 (now (t .entry)) (now (wake .entry))) ⌝ }
+    ensures { λ r. ⌜ (walked r (now (t .exit)) (now (wake .exit)) ≡ endCells waitPlaces clock time (walked 0 (now (t .entry)) (now (wake .entry)))) × (r ≤ waitPlaces) ⌝ }
 {
     let mut k: usize = 0;
     while k < tables::WAIT_PLACES {
@@ -203,7 +203,7 @@ fn serve_all(t: &mut [u64], wake: &mut [u64], p: usize, k: usize) -> usize
 // the objects as they then stand. How many were served and told.
 pub fn wake(t: &mut [u64], wake: &mut [u64], h: u64) -> usize
     requires { ⌜ (length (now t) ≡ tableLength) × (wakeLength ≤ length (now wake)) ⌝ }
-    ensures { λ r. ⌜ walked r (now (t .exit)) (now (wake .exit)) ≡ wakeCells (now (t .entry)) h (now (wake .entry)) ⌝ }
+    ensures { λ r. ⌜ (walked r (now (t .exit)) (now (wake .exit)) ≡ wakeCells (now (t .entry)) h (now (wake .entry))) × (r ≤ waitPlaces) ⌝ }
 {
     let mut last: u64 = 0;
     let mut k: usize = 0;

@@ -1,7 +1,8 @@
+use Rattle.refine.proofs.Validity.{small-of}
 use mathlib.Core.List.{List, []}
 use Rattle.model.specs.Calls.{lend}
 use Rattle.kinds.specs.Values.{cellsOf}
-use Rattle.calls.proofs.Laws.{small-of, mutex-none, mutex-abandoned, mutex-read}
+use Rattle.calls.proofs.Laws.{mutex-none, mutex-abandoned, mutex-read}
 use native.Mathlib.Omega.{arith}
 use borrow.Author.Needs.{needs}
 use Rattle.calls.proofs.read_mutex.Statement.{statement}

@@ -1,7 +1,8 @@
+use Rattle.refine.proofs.Validity.{small-of}
 use mathlib.Core.List.{List, []}
 use Rattle.model.specs.Calls.{lend}
 use Rattle.kinds.specs.Values.{cellsOf, changeOf}
-use Rattle.calls.proofs.Laws.{small-of, reset-refused, reset-done}
+use Rattle.calls.proofs.Laws.{reset-refused, reset-done}
 use native.Mathlib.Omega.{arith}
 use borrow.Author.Needs.{needs}
 use Rattle.calls.proofs.reset.Statement.{statement}

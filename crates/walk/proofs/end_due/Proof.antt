@@ -38,7 +38,7 @@ same-length-2 c = search needs
 
 -- src/lib.rt:100:13
 returns : tie.Need-returns Inv-loop μ-loop
-returns c = let a = c .before .before .before .before .before .before .before .args in sym (c .before .before .before .before .loop .inv .3 ∙ end-stop (a .clock) (a .time) (c .before .before .before .before .loop .t) (c .before .before .before .before .loop .wake) (c .before .before .before .before .loop .k) (c .before .before .before .loop-test .taken) (c .before .next-due .ensures) (c .if1 .taken))
+returns c = let a = c .before .before .before .before .before .before .before .args in (sym (c .before .before .before .before .loop .inv .3 ∙ end-stop (a .clock) (a .time) (c .before .before .before .before .loop .t) (c .before .before .before .before .loop .wake) (c .before .before .before .before .loop .k) (c .before .before .before .loop-test .taken) (c .before .next-due .ensures) (c .if1 .taken)), omega arith)
 
 -- src/lib.rt:102:13
 ticket-at-requires : tie.Need-ticket-at-requires Inv-loop μ-loop
@@ -70,7 +70,7 @@ same-length-4 c = search needs
 
 -- src/lib.rt:92:1
 returns-2 : tie.Need-returns-2 Inv-loop μ-loop
-returns-2 c = let a = c .before .before .before .before .args in sym (c .before .loop .inv .3 ∙ end-last (a .clock) (a .time) (c .before .loop .t) (c .before .loop .wake) (c .before .loop .k) (c .loop-test .left))
+returns-2 c = let a = c .before .before .before .before .args in (sym (c .before .loop .inv .3 ∙ end-last (a .clock) (a .time) (c .before .loop .t) (c .before .loop .wake) (c .before .loop .k) (c .loop-test .left)), omega arith)
 
 pub end-due-spec : {M : Type 1} → statement M
 end-due-spec =

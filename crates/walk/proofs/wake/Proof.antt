@@ -64,7 +64,7 @@ same-length-2 c = search needs
 
 -- src/lib.rt:215:13
 returns : tie.Need-returns Inv-loop μ-loop Inv-waits μ-waits
-returns c = let s = c .before .before .before .before .waits in walk-none (c .before .before .before .before .before .before .before .args .h) (s .turn) (s .last) (s .k) (s .t) (s .wake) (s .inv .4) (c .before .before .before .waits-test .taken) (c .before .next-wait .ensures) (c .if1 .taken)
+returns c = let s = c .before .before .before .before .waits in (walk-none (c .before .before .before .before .before .before .before .args .h) (s .turn) (s .last) (s .k) (s .t) (s .wake) (s .inv .4) (c .before .before .before .waits-test .taken) (c .before .next-wait .ensures) (c .if1 .taken), omega arith)
 
 -- src/lib.rt:217:9
 ticket-at-requires : tie.Need-ticket-at-requires Inv-loop μ-loop Inv-waits μ-waits
@@ -164,7 +164,7 @@ same-length-4 c = search needs
 
 -- src/lib.rt:204:1
 returns-2 : tie.Need-returns-2 Inv-loop μ-loop Inv-waits μ-waits
-returns-2 c = let s = c .before .waits in walk-end (c .before .before .before .before .args .h) (s .turn) (s .last) (s .k) (s .t) (s .wake) (s .inv .4) (c .waits-test .left)
+returns-2 c = let s = c .before .waits in (walk-end (c .before .before .before .before .args .h) (s .turn) (s .last) (s .k) (s .t) (s .wake) (s .inv .4) (c .waits-test .left), omega arith)
 
 pub wake-spec : {M : Type 1} → statement M
 wake-spec =
