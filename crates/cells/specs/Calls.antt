@@ -104,9 +104,11 @@ signalOn how h x t l = let r = signalFields how x in
 unfoldable pub signalCells : Signal → ℕ → List ℕ → Lent → Result
 signalCells how h t l = cond (ltb (length (l .wake)) wakeLength) (refusedWith 12 t l) (signalOn how h (named t h) t l)
 
+abbrev pub expireOn : ℕ → ℕ → List ℕ → Lent → Result
+expireOn clock time t l = cond (ltb 1 clock) (refusedWith 1 t l) (woke 0 (endCells waitPlaces clock time (walked 0 t (l .wake))) l)
+
 unfoldable pub expireCells : ℕ → ℕ → List ℕ → Lent → Result
-expireCells clock time t l = cond (ltb (length (l .wake)) wakeLength) (refusedWith 12 t l)
-    (cond (ltb 1 clock) (refusedWith 1 t l) (woke 0 (endCells waitPlaces clock time (walked 0 t (l .wake))) l))
+expireCells clock time t l = cond (ltb (length (l .wake)) wakeLength) (refusedWith 12 t l) (expireOn clock time t l)
 
 -- the place of the wait with this ticket; ticket 0 is at the empty places
 unfoldable pub ticketPlace : List ℕ → ℕ → ℕ
