@@ -5,16 +5,17 @@ use mathlib.Core.Bool.{Bool, true, false, not, cond}
 use mathlib.Core.List.{List, [], _∷_}
 use native.Mathlib.Omega.{arith}
 use lib.ListN.{length}
-use borrow.Author.Tests.{eq-eqb, ne-eqb}
-use Rattle.model.specs.Calls.{Operation, create, Kind, Lent, lend, asks, badNew}
-use Rattle.model.specs.Sizes.{maxListed, word32}
+use lib.Dec.{ltb}
+use borrow.Author.Tests.{eq-eqb, ne-eqb, lt-ltb, le-ltb, ltb-false}
+use Rattle.model.specs.Calls.{Operation, create, signal, expire, Kind, Signal, Lent, lend, asks, badNew}
+use Rattle.model.specs.Sizes.{maxListed, word32, wakeLength}
 use Rattle.model.specs.Layout.{tableLength}
 use Rattle.waits.proofs.Laws.{wait-index}
 use Rattle.model.specs.Steps.{tableStep, makeTables, seen}
-use Rattle.model.proofs.Logic.{not-true, not-false, not-twice}
-use Rattle.cells.specs.Objects.{Fields}
+use Rattle.model.proofs.Logic.{byBool, not-true, not-false, not-twice}
+use Rattle.cells.specs.Objects.{Fields, named}
 use Rattle.cells.specs.Validity.{validCells}
-use Rattle.cells.specs.Calls.{Result, answered, refusedWith, createCells, newFields, onCells, callCells, guarded, madeCells, makeCells, waitOnCells}
+use Rattle.cells.specs.Calls.{Result, answered, refusedWith, createCells, newFields, onCells, callCells, guarded, madeCells, makeCells, waitOnCells, signalOn, signalCells, expireOn, expireCells}
 use Rattle.refine.proofs.Validity.{Words, valid-length}
 use Rattle.refine.proofs.Refinement.{call-means, make-means}
 
@@ -65,3 +66,64 @@ not-made t n = ap shown (sym ((let z = ne-eqb (length t) tableLength n in rw z) 
 -- a wait's index is a 32-bit number
 pub index-small : (t : List ℕ) (mode : ℕ) (list : List ℕ) (asking flags pad alert timeout time : ℕ) (q : Result) → q ≡ waitOnCells mode list asking flags pad alert timeout time t (lend [] []) → q .first < word32
 index-small t mode list asking flags pad alert timeout time q e = let l : q .first ≤ maxListed = rw e (wait-index t mode list asking flags pad alert timeout time (lend [] [])) in omega arith
+
+-- the calls that wake, behind 9 and 12
+abbrev pub tests : List ℕ → List ℕ → ℕ
+tests t wake = cond (validCells t) (cond (ltb (length wake) wakeLength) 12 0) 9
+
+module _ (t wake : List ℕ) {a : ℕ} (q : a ≡ tests t wake) where
+  module _ (z : a ≡ 0) where
+    pub wakes-valid : validCells t ≡ true
+    wakes-valid = byBool (validCells t) (λ y. y) (λ n. absurd (let e : a ≡ 9 = q ∙ rw n in let w : ⊥ = omega arith in w))
+
+    pub wakes-length : length t ≡ tableLength
+    wakes-length = valid-length t wakes-valid
+
+    long : ltb (length wake) wakeLength ≡ false
+    long = byBool (ltb (length wake) wakeLength) (λ y. absurd (let e : a ≡ 12 = q ∙ rw (wakes-valid, y) in let w : ⊥ = omega arith in w)) (λ n. n)
+
+    pub wakes-long : wakeLength ≤ length wake
+    wakes-long = ltb-false (length wake) wakeLength long
+
+  -- a call whose cells test the wake list and then do the rest
+  module _ (op : Operation) (rest : Result) (d : onCells op t (lend wake []) ≡ cond (ltb (length wake) wakeLength) (refusedWith 12 t (lend wake [])) rest) (w : Words t) where
+    wakes-refused : (a ≡ 0 → ⊥) → seen (tableStep t (asks op wake [])) ≡ shown (refusedWith a t (lend wake []))
+    wakes-refused n = means op t wake [] w (rw d (byBool (validCells t)
+        (λ y. rw y (byBool (ltb (length wake) wakeLength) (λ s. let e : a ≡ 12 = q ∙ rw (y, s) in rw (s, e)) (λ s. absurd (n (q ∙ rw (y, s))))))
+        (λ y. let e : a ≡ 9 = q ∙ rw y in rw (y, e))))
+
+    wakes-done : {r : Result} → a ≡ 0 → r ≡ rest → seen (tableStep t (asks op wake [])) ≡ shown r
+    wakes-done z e = means op t wake [] w (rw (wakes-valid z, d, long z) e)
+
+  module _ (how : Signal) (h : ℕ) (w : Words t) where
+    split : onCells (signal how h) t (lend wake []) ≡ cond (ltb (length wake) wakeLength) (refusedWith 12 t (lend wake [])) (signalOn how h (named t h) t (lend wake []))
+    unfolding signalCells
+    split = refl
+
+    pub signal-refused : (a ≡ 0 → ⊥) → seen (tableStep t (asks (signal how h) wake [])) ≡ shown (refusedWith a t (lend wake []))
+    signal-refused = wakes-refused (signal how h) (signalOn how h (named t h) t (lend wake [])) split w
+
+    pub signal-done : {r : Result} → a ≡ 0 → r ≡ signalOn how h (named t h) t (lend wake []) → seen (tableStep t (asks (signal how h) wake [])) ≡ shown r
+    signal-done = wakes-done (signal how h) (signalOn how h (named t h) t (lend wake [])) split w
+
+  module _ (clock time : ℕ) (w : Words t) where
+    parts : onCells (expire clock time) t (lend wake []) ≡ cond (ltb (length wake) wakeLength) (refusedWith 12 t (lend wake [])) (expireOn clock time t (lend wake []))
+    unfolding expireCells
+    parts = refl
+
+    pub expire-refused : (a ≡ 0 → ⊥) → seen (tableStep t (asks (expire clock time) wake [])) ≡ shown (refusedWith a t (lend wake []))
+    expire-refused = wakes-refused (expire clock time) (expireOn clock time t (lend wake [])) parts w
+
+    pub expire-done : {r : Result} → a ≡ 0 → r ≡ expireOn clock time t (lend wake []) → seen (tableStep t (asks (expire clock time) wake [])) ≡ shown r
+    expire-done = wakes-done (expire clock time) (expireOn clock time t (lend wake [])) parts w
+
+-- the two tests
+module _ (t wake : List ℕ) {v : Bool} (q : v ≡ validCells t) where
+  pub refused-corrupt : not v ≡ true → tests t wake ≡ 9
+  refused-corrupt y = rw (sym q, not-true v y)
+
+  pub refused-short : not v ≡ false → length wake < wakeLength → tests t wake ≡ 12
+  refused-short n l = rw (found-valid t q n, lt-ltb (length wake) wakeLength l)
+
+  pub refused-none : not v ≡ false → wakeLength ≤ length wake → tests t wake ≡ 0
+  refused-none n l = rw (found-valid t q n, le-ltb (length wake) wakeLength l)

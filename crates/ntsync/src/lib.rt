@@ -2,8 +2,12 @@
 // is one equation with the meaning: the answer, the numbers with it and every cell of the tables.
 ghost use mathlib.Core.Path.{_≡_};
 ghost use mathlib.Core.List.{[], _∷_};
-ghost use mathlib.Core.Bool.{not};
-ghost use Rattle.model.specs.Calls.{create, close, resetEvent, read, cancel, wait, aSemaphore, aMutex, anEvent, lend, asks};
+ghost use mathlib.Core.Bool.{not, cond};
+ghost use lib.ListN.{length};
+ghost use lib.Dec.{ltb};
+ghost use Rattle.model.specs.Sizes.{wakeLength};
+ghost use Rattle.model.specs.Calls.{create, close, resetEvent, read, signal, cancel, wait, expire, post, unlock, kill, setEvent, pulseEvent, aSemaphore, aMutex, anEvent, lend, asks};
+ghost use Rattle.cells.specs.Validity.{validCells};
 ghost use Rattle.model.specs.Steps.{tableStep, makeTables, seen};
 ghost use Rattle.model.specs.Waits.{any, all};
 ghost use Rattle.cells.specs.Calls.{answered, createCells, waitOnCells, guarded};
@@ -13,6 +17,7 @@ use kinds::Creation;
 use kinds::Event;
 use kinds::Mutex;
 use kinds::Semaphore;
+use signals::Changed;
 
 #[repr(C)]
 pub struct Created {
@@ -41,14 +46,6 @@ pub struct EventState {
     pub manual: u32,
 }
 
-// `woken` counts the records at the front of the wake list, 0 where the call has none.
-#[repr(C)]
-pub struct Changed {
-    pub answer: u32,
-    pub previous: u32,
-    pub woken: u32,
-}
-
 #[repr(C)]
 pub struct Waited {
     pub answer: u32,
@@ -57,6 +54,11 @@ pub struct Waited {
 }
 
 const CORRUPT: u32 = 9;
+
+const LIST_SHORT: u32 = 12;
+
+// A record for every wait place.
+const WAKE_LENGTH: usize = 3 * tables::WAIT_PLACES;
 
 // Newly made tables; only the length is looked at.
 pub fn init(tables: &mut [u64]) -> u32
@@ -288,4 +290,104 @@ pub fn wait_all(
     ensures { λ r. ⌜ seen (tableStep (now (tables .entry)) (asks (wait all (now (list .entry)) owner flags pad alert timeout time) [] [])) ≡ (r .answer ∷ r .index ∷ r .ticket ∷ 0 ∷ [], [], [], now (tables .exit)) ⌝ }
 {
     wait(tables, 1, list, owner, alert, flags, pad, timeout, time)
+}
+
+// ---- the calls that wake
+
+// 9 for corrupt tables, then 12 for a wake list that is too short; 0 where neither.
+fn refused(tables: &[u64], wake: &[u64]) -> u32
+    ensures { λ r. ⌜ r ≡ cond (validCells (now (tables .entry))) (cond (ltb (length (now (wake .entry))) wakeLength) 12 0) 9 ⌝ }
+{
+    let corrupt = !validity::valid(tables);
+    if corrupt {
+        return CORRUPT;
+    }
+    if wake.len() < WAKE_LENGTH {
+        return LIST_SHORT;
+    }
+    0
+}
+
+pub fn post(tables: &mut [u64], wake: &mut [u64], handle: u32, add: u32) -> Changed
+    ensures { λ r. ⌜ seen (tableStep (now (tables .entry)) (asks (signal (post add) handle) (now (wake .entry)) [])) ≡ (r .answer ∷ r .previous ∷ 0 ∷ r .woken ∷ [], now (wake .exit), [], now (tables .exit)) ⌝ }
+{
+    let answer = refused(tables, wake);
+    if answer != 0 {
+        return Changed {
+            answer,
+            previous: 0,
+            woken: 0,
+        };
+    }
+    signals::post(tables, wake, handle as u64, add as u64)
+}
+
+pub fn unlock(tables: &mut [u64], wake: &mut [u64], handle: u32, owner: u32) -> Changed
+    ensures { λ r. ⌜ seen (tableStep (now (tables .entry)) (asks (signal (unlock owner) handle) (now (wake .entry)) [])) ≡ (r .answer ∷ r .previous ∷ 0 ∷ r .woken ∷ [], now (wake .exit), [], now (tables .exit)) ⌝ }
+{
+    let answer = refused(tables, wake);
+    if answer != 0 {
+        return Changed {
+            answer,
+            previous: 0,
+            woken: 0,
+        };
+    }
+    signals::unlock(tables, wake, handle as u64, owner as u64)
+}
+
+pub fn kill_owner(tables: &mut [u64], wake: &mut [u64], handle: u32, owner: u32) -> Changed
+    ensures { λ r. ⌜ seen (tableStep (now (tables .entry)) (asks (signal (kill owner) handle) (now (wake .entry)) [])) ≡ (r .answer ∷ r .previous ∷ 0 ∷ r .woken ∷ [], now (wake .exit), [], now (tables .exit)) ⌝ }
+{
+    let answer = refused(tables, wake);
+    if answer != 0 {
+        return Changed {
+            answer,
+            previous: 0,
+            woken: 0,
+        };
+    }
+    signals::kill(tables, wake, handle as u64, owner as u64)
+}
+
+pub fn set(tables: &mut [u64], wake: &mut [u64], handle: u32) -> Changed
+    ensures { λ r. ⌜ seen (tableStep (now (tables .entry)) (asks (signal setEvent handle) (now (wake .entry)) [])) ≡ (r .answer ∷ r .previous ∷ 0 ∷ r .woken ∷ [], now (wake .exit), [], now (tables .exit)) ⌝ }
+{
+    let answer = refused(tables, wake);
+    if answer != 0 {
+        return Changed {
+            answer,
+            previous: 0,
+            woken: 0,
+        };
+    }
+    signals::set(tables, wake, handle as u64)
+}
+
+pub fn pulse(tables: &mut [u64], wake: &mut [u64], handle: u32) -> Changed
+    ensures { λ r. ⌜ seen (tableStep (now (tables .entry)) (asks (signal pulseEvent handle) (now (wake .entry)) [])) ≡ (r .answer ∷ r .previous ∷ 0 ∷ r .woken ∷ [], now (wake .exit), [], now (tables .exit)) ⌝ }
+{
+    let answer = refused(tables, wake);
+    if answer != 0 {
+        return Changed {
+            answer,
+            previous: 0,
+            woken: 0,
+        };
+    }
+    signals::pulse(tables, wake, handle as u64)
+}
+
+pub fn expire(tables: &mut [u64], wake: &mut [u64], clock: u32, time: u64) -> Changed
+    ensures { λ r. ⌜ seen (tableStep (now (tables .entry)) (asks (expire clock time) (now (wake .entry)) [])) ≡ (r .answer ∷ r .previous ∷ 0 ∷ r .woken ∷ [], now (wake .exit), [], now (tables .exit)) ⌝ }
+{
+    let answer = refused(tables, wake);
+    if answer != 0 {
+        return Changed {
+            answer,
+            previous: 0,
+            woken: 0,
+        };
+    }
+    signals::expire(tables, wake, clock as u64, time)
 }

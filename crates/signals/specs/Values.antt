@@ -7,9 +7,9 @@ use Rattle.model.specs.Calls.{lend}
 use Rattle.cells.specs.Objects.{Changed, store}
 use Rattle.cells.specs.Walk.{wakeCells}
 use Rattle.cells.specs.Calls.{Result, refusedWith, woke}
-use Rattle.signals.specs.declared.Signaled.{Signaled}
+use Rattle.signals.specs.declared.Changed.{Changed as Told}
 
-abbrev pub leftBy : Signaled → List ℕ → List ℕ → Result
+abbrev pub leftBy : Told → List ℕ → List ℕ → Result
 leftBy r t wake = record { answer = r .answer; first = r .previous; second = 0; woken = r .woken; tables = t; wake = wake; buffer = [] }
 
 -- a change of the object that h names

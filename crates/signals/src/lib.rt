@@ -15,20 +15,21 @@ ghost use Rattle.kinds.specs.Values.{changeOf};
 ghost use Rattle.signals.specs.Values.{leftBy, applied};
 use kinds::Change;
 
-// The answer, the number handed back, and how many records are in the wake list.
-pub struct Signaled {
+// The answer, the number handed back, and how many records stand at the front of the wake list.
+#[repr(C)]
+pub struct Changed {
     pub answer: u32,
     pub previous: u32,
     pub woken: u32,
 }
 
 // A refused change alters nothing. Any other is stored, and the walk follows.
-fn apply(t: &mut [u64], wake: &mut [u64], h: u64, previous: u32, c: Change) -> Signaled
+fn apply(t: &mut [u64], wake: &mut [u64], h: u64, previous: u32, c: Change) -> Changed
     requires { ⌜ (length (now t) ≡ tableLength) × (wakeLength ≤ length (now wake)) ⌝ }
     ensures { λ r. ⌜ leftBy r (now (t .exit)) (now (wake .exit)) ≡ applied (changeOf c) previous h (now (t .entry)) (now (wake .entry)) ⌝ }
 {
     if c.answer != 0 {
-        return Signaled {
+        return Changed {
             answer: c.answer,
             previous: 0,
             woken: 0,
@@ -36,14 +37,14 @@ fn apply(t: &mut [u64], wake: &mut [u64], h: u64, previous: u32, c: Change) -> S
     }
     tables::store(t, h, c.next);
     let k = walk::wake(t, wake, h);
-    Signaled {
+    Changed {
         answer: 0,
         previous,
         woken: k as u32,
     }
 }
 
-pub fn post(t: &mut [u64], wake: &mut [u64], h: u64, add: u64) -> Signaled
+pub fn post(t: &mut [u64], wake: &mut [u64], h: u64, add: u64) -> Changed
     requires { ⌜ (length (now t) ≡ tableLength) × (validCells (now t) ≡ true) × (wakeLength ≤ length (now wake)) ⌝ }
     ensures { λ r. ⌜ leftBy r (now (t .exit)) (now (wake .exit)) ≡ signalOn (post add) h (named (now (t .entry)) h) (now (t .entry)) (lend (now (wake .entry)) []) ⌝ }
 {
@@ -53,7 +54,7 @@ pub fn post(t: &mut [u64], wake: &mut [u64], h: u64, add: u64) -> Signaled
     apply(t, wake, h, previous, c)
 }
 
-pub fn unlock(t: &mut [u64], wake: &mut [u64], h: u64, asking: u64) -> Signaled
+pub fn unlock(t: &mut [u64], wake: &mut [u64], h: u64, asking: u64) -> Changed
     requires { ⌜ (length (now t) ≡ tableLength) × (validCells (now t) ≡ true) × (wakeLength ≤ length (now wake)) ⌝ }
     ensures { λ r. ⌜ leftBy r (now (t .exit)) (now (wake .exit)) ≡ signalOn (unlock asking) h (named (now (t .entry)) h) (now (t .entry)) (lend (now (wake .entry)) []) ⌝ }
 {
@@ -63,7 +64,7 @@ pub fn unlock(t: &mut [u64], wake: &mut [u64], h: u64, asking: u64) -> Signaled
     apply(t, wake, h, previous, c)
 }
 
-pub fn kill(t: &mut [u64], wake: &mut [u64], h: u64, asking: u64) -> Signaled
+pub fn kill(t: &mut [u64], wake: &mut [u64], h: u64, asking: u64) -> Changed
     requires { ⌜ (length (now t) ≡ tableLength) × (wakeLength ≤ length (now wake)) ⌝ }
     ensures { λ r. ⌜ leftBy r (now (t .exit)) (now (wake .exit)) ≡ signalOn (kill asking) h (named (now (t .entry)) h) (now (t .entry)) (lend (now (wake .entry)) []) ⌝ }
 {
@@ -72,7 +73,7 @@ pub fn kill(t: &mut [u64], wake: &mut [u64], h: u64, asking: u64) -> Signaled
     apply(t, wake, h, 0, c)
 }
 
-pub fn set(t: &mut [u64], wake: &mut [u64], h: u64) -> Signaled
+pub fn set(t: &mut [u64], wake: &mut [u64], h: u64) -> Changed
     requires { ⌜ (length (now t) ≡ tableLength) × (validCells (now t) ≡ true) × (wakeLength ≤ length (now wake)) ⌝ }
     ensures { λ r. ⌜ leftBy r (now (t .exit)) (now (wake .exit)) ≡ signalOn setEvent h (named (now (t .entry)) h) (now (t .entry)) (lend (now (wake .entry)) []) ⌝ }
 {
@@ -83,7 +84,7 @@ pub fn set(t: &mut [u64], wake: &mut [u64], h: u64) -> Signaled
 }
 
 // As set; then the event is cleared, whoever took it.
-pub fn pulse(t: &mut [u64], wake: &mut [u64], h: u64) -> Signaled
+pub fn pulse(t: &mut [u64], wake: &mut [u64], h: u64) -> Changed
     requires { ⌜ (length (now t) ≡ tableLength) × (validCells (now t) ≡ true) × (wakeLength ≤ length (now wake)) ⌝ }
     ensures { λ r. ⌜ leftBy r (now (t .exit)) (now (wake .exit)) ≡ signalOn pulseEvent h (named (now (t .entry)) h) (now (t .entry)) (lend (now (wake .entry)) []) ⌝ }
 {
@@ -98,19 +99,19 @@ pub fn pulse(t: &mut [u64], wake: &mut [u64], h: u64) -> Signaled
 }
 
 // Clocks 0 and 1 are known.
-pub fn expire(t: &mut [u64], wake: &mut [u64], clock: u64, time: u64) -> Signaled
+pub fn expire(t: &mut [u64], wake: &mut [u64], clock: u64, time: u64) -> Changed
     requires { ⌜ (length (now t) ≡ tableLength) × (wakeLength ≤ length (now wake)) ⌝ }
     ensures { λ r. ⌜ leftBy r (now (t .exit)) (now (wake .exit)) ≡ expireOn clock time (now (t .entry)) (lend (now (wake .entry)) []) ⌝ }
 {
     if 1 < clock {
-        return Signaled {
+        return Changed {
             answer: 1,
             previous: 0,
             woken: 0,
         };
     }
     let k = walk::end_due(t, wake, clock, time);
-    Signaled {
+    Changed {
         answer: 0,
         previous: 0,
         woken: k as u32,
