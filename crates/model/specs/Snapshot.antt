@@ -15,8 +15,7 @@ abbrev pub ascii : String → List ℕ
 ascii []ˢ = []
 ascii (c ∷ˢ s) = code c ∷ ascii s
 
--- "decimal with no leading zeros": the digits of the number without its last one, then the last one.
--- No number below 2^64 has more than 20 digits.
+-- "decimal with no leading zeros": the digits of n / 10, then the last; no number below 2^64 has more than 20
 unfoldable pub digitsUpTo : ℕ → ℕ → List ℕ
 digitsUpTo zero n = (48 + n % 10) ∷ []
 digitsUpTo (suc k) n = let front = digitsUpTo k (n / 10) in cond (ltb n 10) [] front ++ ((48 + n % 10) ∷ [])

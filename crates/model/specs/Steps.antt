@@ -13,9 +13,8 @@ use Rattle.model.specs.Waits.{Mode, any, all, Wait, WaitPlace, free, wai
 use Rattle.model.specs.Calls.{Operation, create, close, resetEvent, read, signal, wait, expire, cancel, snapshot, Lent, lend, Call, least, Refusal, refusal, refusals, newWait, Change, change}
 use Rattle.model.specs.Layout.{tableLength, encode, view, validTables}
 
--- "equal after each call in: the answer and all numbers with it; the reports (ticket, answer, index) in order ..; every
--- cell of lists and buffers lent for writing; every value that the reckoning holds, place by place". What is held is a
--- state, or a list of cells.
+-- "the answer and all numbers with it; the reports (ticket, answer, index) in order ..; every cell of lists and buffers lent
+-- for writing; every value that the reckoning holds, place by place". What is held is a state, or a list of cells.
 pub record Outcome (Held : Type 0) : Type 0 where
   pub answer : ℕ
   pub first : ℕ
@@ -68,6 +67,10 @@ tableStep t c = cond (validTables t) (onTables (libraryStep (view t) c)) (unalte
 -- the wake list, of the buffer, of the tables.
 abbrev pub seen : Outcome (List ℕ) → List ℕ × List ℕ × List ℕ × List ℕ
 seen o = (o .answer ∷ o .first ∷ o .second ∷ length (o .reports) ∷ [], o .lent .wake, o .lent .buffer, o .held)
+
+-- "The caller is handed the filled front of its own wake list, empty after a refusal": numbers, the front, the tables.
+abbrev pub handed : Outcome (List ℕ) → List ℕ × List ℕ × List ℕ
+handed o = (o .answer ∷ o .first ∷ length (o .reports) ∷ [], records (o .reports), o .held)
 
 -- HISTORIES. "a list of calls, each on the tables as the one before left them"
 unfoldable pub run : {Held Step : Type 0} → (Held → Step → Outcome Held) → Held → List Step → List (Outcome Held)

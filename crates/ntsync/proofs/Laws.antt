@@ -1,17 +1,23 @@
 -- From cells to the meaning: what a call leaves by the definitions of `cells` is what a host sees of its outcome.
-use Prim.Native.Nat.{ℕ, suc, _<_, _≤_}
+use Prim.Native.Nat.{ℕ, suc, _+_, _*_, _<_, _≤_}
 use mathlib.Core.Path.{_≡_, refl, sym, ap, _∙_}
 use mathlib.Core.Bool.{Bool, true, false, not, cond}
-use mathlib.Core.List.{List, [], _∷_}
+use mathlib.Core.List.{List, [], _∷_, append-nil}
 use native.Mathlib.Omega.{arith}
-use lib.ListN.{length}
+use lib.ListN.{length, getD, take, drop, length-append}
+use lib.Seq.{take-append-add}
 use lib.Dec.{ltb}
 use borrow.Author.Tests.{eq-eqb, ne-eqb, lt-ltb, le-ltb, ltb-false}
-use Rattle.model.specs.Calls.{Operation, create, signal, expire, Kind, Signal, Lent, lend, asks, badNew}
+use Rattle.model.specs.Calls.{Operation, create, signal, expire, Kind, Signal, Lent, lend, Call, asks, badNew, change}
 use Rattle.model.specs.Sizes.{maxListed, word32, wakeLength}
-use Rattle.model.specs.Layout.{tableLength}
+use Rattle.model.specs.Layout.{tableLength, view}
+use Rattle.model.specs.Basics.{overwrite}
+use Rattle.model.specs.Waits.{Report, wakeByWalk}
+use Rattle.model.proofs.Tables.{tables-case}
+use Rattle.model.proofs.Rules.{perform-case}
+use Rattle.refine.proofs.Walk.{records-length}
 use Rattle.waits.proofs.Laws.{wait-index}
-use Rattle.model.specs.Steps.{tableStep, makeTables, seen}
+use Rattle.model.specs.Steps.{Outcome, records, completed, libraryStep, onTables, tableStep, makeTables, seen, handed}
 use Rattle.model.proofs.Logic.{byBool, not-true, not-false, not-twice}
 use Rattle.cells.specs.Objects.{Fields, named}
 use Rattle.cells.specs.Validity.{validCells}
@@ -127,3 +133,27 @@ module _ (t wake : List ℕ) {v : Bool} (q : v ≡ validCells t) where
 
   pub refused-none : not v ≡ false → wakeLength ≤ length wake → tests t wake ≡ 0
   refused-none n l = rw (found-valid t q n, le-ltb (length wake) wakeLength l)
+
+-- THE FILLED FRONT: a call's reports stand at the front of the wake list
+abbrev Filled : {Held : Type 0} → Outcome Held → Type 0
+Filled o = (take (3 * length (o .reports)) (o .lent .wake) ≡ records (o .reports)) × (3 * length (o .reports) ≤ length (o .lent .wake))
+
+records-front : (rs : List Report) (wake : List ℕ) → (take (3 * length rs) (overwrite (records rs) wake) ≡ records rs) × (3 * length rs ≤ length (overwrite (records rs) wake))
+records-front rs wake = let R : List ℕ = records rs in let D : List ℕ = drop (length R) wake in let n = records-length rs in let e : 3 * length rs ≡ length R + 0 = omega arith in
+    (rw e (take-append-add R D 0 ∙ append-nil R), rw (length-append R D) (omega arith))
+
+filled : (t : List ℕ) (c : Call) → Filled (tableStep t c)
+unfolding records libraryStep
+filled t c = tables-case t c Filled (λ n. (refl, omega arith)) (λ e g. perform-case wakeByWalk (view t) c (λ o. Filled (onTables o)) (λ n q. (refl, omega arith))
+    (λ q. let o = completed wakeByWalk (c .lent) (change (c .operation) (view t)) in records-front (o .reports) (c .lent .wake)))
+
+module _ (t : List ℕ) (c : Call) {a x n : ℕ} {wake buffer u : List ℕ} (e : seen (tableStep t c) ≡ (a ∷ x ∷ 0 ∷ n ∷ [], wake, buffer, u)) where
+  pub front-room : 3 * n ≤ length wake
+  front-room = let l = (filled t c) .1 in let k : length ((tableStep t c) .reports) ≡ n = ap (λ (s : List ℕ × List ℕ × List ℕ × List ℕ). getD (s .0) 3 0) e in
+      let w : length ((tableStep t c) .lent .wake) ≡ length wake = ap (λ (s : List ℕ × List ℕ × List ℕ × List ℕ). length (s .1)) e in omega arith
+
+  abbrev fronted : List ℕ × List ℕ × List ℕ × List ℕ → List ℕ × List ℕ × List ℕ
+  fronted s = (getD (s .0) 0 0 ∷ getD (s .0) 1 0 ∷ getD (s .0) 3 0 ∷ [], take (3 * getD (s .0) 3 0) (s .1), s .3)
+
+  pub handed-is : {front : List ℕ} → front ≡ take (3 * n) wake → handed (tableStep t c) ≡ (a ∷ x ∷ n ∷ [], front, u)
+  handed-is f = rw f (ap (λ (l : List ℕ). ((tableStep t c) .answer ∷ (tableStep t c) .first ∷ length ((tableStep t c) .reports) ∷ [], l, (tableStep t c) .held)) (sym ((filled t c) .0)) ∙ ap fronted e)

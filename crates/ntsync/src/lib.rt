@@ -3,12 +3,14 @@
 ghost use mathlib.Core.Path.{_≡_};
 ghost use mathlib.Core.List.{[], _∷_};
 ghost use mathlib.Core.Bool.{not, cond};
-ghost use lib.ListN.{length};
+ghost use lib.ListN.{length, take};
+ghost use denote.Ref.{ptr};
+ghost use Prim.Native.Nat.{_*_, _≤_};
 ghost use lib.Dec.{ltb};
 ghost use Rattle.model.specs.Sizes.{wakeLength};
 ghost use Rattle.model.specs.Calls.{create, close, resetEvent, read, signal, cancel, wait, expire, post, unlock, kill, setEvent, pulseEvent, aSemaphore, aMutex, anEvent, lend, asks};
 ghost use Rattle.cells.specs.Validity.{validCells};
-ghost use Rattle.model.specs.Steps.{tableStep, makeTables, seen};
+ghost use Rattle.model.specs.Steps.{tableStep, makeTables, seen, handed};
 ghost use Rattle.model.specs.Waits.{any, all};
 ghost use Rattle.cells.specs.Calls.{answered, createCells, waitOnCells, guarded};
 ghost use Rattle.kinds.specs.Values.{cellsOf};
@@ -390,4 +392,97 @@ pub fn expire(tables: &mut [u64], wake: &mut [u64], clock: u32, time: u64) -> Ch
         };
     }
     signals::expire(tables, wake, clock as u64, time)
+}
+
+// ---- the same calls, each handing out the filled front of the caller's own wake list, empty after a refusal; `result` gets
+// the answer, the number handed back and the number of records
+
+fn front<'a>(wake: &'a mut [u64], woken: u32) -> &'a mut [u64]
+    requires { ⌜ 3 * woken ≤ length (now wake) ⌝ }
+    ensures { λ r. ⌜ (now r ≡ take (3 * woken) (now (wake .entry))) × (ptr r ≡ ptr (wake .entry)) ⌝ }
+{
+    let end = 3 * (woken as usize);
+    &mut wake[..end]
+}
+
+pub fn post_woken<'a>(
+    tables: &mut [u64],
+    wake: &'a mut [u64],
+    result: &mut [u64; 3],
+    handle: u32,
+    add: u32,
+) -> &'a mut [u64]
+    ensures { λ r. ⌜ (handed (tableStep (now (tables .entry)) (asks (signal (post add) handle) (now (wake .entry)) [])) ≡ (now (result .exit), now r, now (tables .exit))) × (ptr r ≡ ptr (wake .entry)) ⌝ }
+{
+    let r = post(tables, wake, handle, add);
+    *result = [r.answer as u64, r.previous as u64, r.woken as u64];
+    front(wake, r.woken)
+}
+
+pub fn unlock_woken<'a>(
+    tables: &mut [u64],
+    wake: &'a mut [u64],
+    result: &mut [u64; 3],
+    handle: u32,
+    owner: u32,
+) -> &'a mut [u64]
+    ensures { λ r. ⌜ (handed (tableStep (now (tables .entry)) (asks (signal (unlock owner) handle) (now (wake .entry)) [])) ≡ (now (result .exit), now r, now (tables .exit))) × (ptr r ≡ ptr (wake .entry)) ⌝ }
+{
+    let r = unlock(tables, wake, handle, owner);
+    *result = [r.answer as u64, r.previous as u64, r.woken as u64];
+    front(wake, r.woken)
+}
+
+pub fn kill_owner_woken<'a>(
+    tables: &mut [u64],
+    wake: &'a mut [u64],
+    result: &mut [u64; 3],
+    handle: u32,
+    owner: u32,
+) -> &'a mut [u64]
+    ensures { λ r. ⌜ (handed (tableStep (now (tables .entry)) (asks (signal (kill owner) handle) (now (wake .entry)) [])) ≡ (now (result .exit), now r, now (tables .exit))) × (ptr r ≡ ptr (wake .entry)) ⌝ }
+{
+    let r = kill_owner(tables, wake, handle, owner);
+    *result = [r.answer as u64, r.previous as u64, r.woken as u64];
+    front(wake, r.woken)
+}
+
+pub fn set_woken<'a>(
+    tables: &mut [u64],
+    wake: &'a mut [u64],
+    result: &mut [u64; 3],
+    handle: u32,
+) -> &'a mut [u64]
+    ensures { λ r. ⌜ (handed (tableStep (now (tables .entry)) (asks (signal setEvent handle) (now (wake .entry)) [])) ≡ (now (result .exit), now r, now (tables .exit))) × (ptr r ≡ ptr (wake .entry)) ⌝ }
+{
+    let r = set(tables, wake, handle);
+    *result = [r.answer as u64, r.previous as u64, r.woken as u64];
+    front(wake, r.woken)
+}
+
+pub fn pulse_woken<'a>(
+    tables: &mut [u64],
+    wake: &'a mut [u64],
+    result: &mut [u64; 3],
+    handle: u32,
+) -> &'a mut [u64]
+    ensures { λ r. ⌜ (handed (tableStep (now (tables .entry)) (asks (signal pulseEvent handle) (now (wake .entry)) [])) ≡ (now (result .exit), now r, now (tables .exit))) × (ptr r ≡ ptr (wake .entry)) ⌝ }
+{
+    let r = pulse(tables, wake, handle);
+    *result = [r.answer as u64, r.previous as u64, r.woken as u64];
+    front(wake, r.woken)
+}
+
+pub fn expire_woken<'a>(
+    tables: &mut [u64],
+    wake: &'a mut [u64],
+    result: &mut [u64; 3],
+    clock: u32,
+    time: u64,
+) -> &'a mut [u64]
+    ensures { λ r. ⌜ (handed (tableStep (now (tables .entry)) (asks (expire clock time) (now (wake .entry)) [])) ≡ (now (result .exit), now r, now (tables .exit))) × (ptr r ≡ ptr (wake .entry)) ⌝ }
+{
+    let r = expire(tables, wake, clock, time);
+    *result = [r.answer as u64, r.previous as u64, r.woken as u64];
+    front(wake, r.woken)
 }

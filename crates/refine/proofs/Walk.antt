@@ -30,7 +30,7 @@ use Rattle.refine.proofs.Waits.{ticket-at, names-at, clear-wait, tells-
 abbrev pub filled : List Report → List ℕ → List ℕ
 filled rs wake = overwrite (records rs) wake
 
-records-length : (rs : List Report) → length (records rs) ≡ 3 * length rs
+pub records-length : (rs : List Report) → length (records rs) ≡ 3 * length rs
 unfolding records
 records-length [] = refl
 records-length (r ∷ rs) = let ih = records-length rs in omega arith

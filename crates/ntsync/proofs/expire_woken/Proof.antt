@@ -1,0 +1,44 @@
+use mathlib.Core.List.{[]}
+use Rattle.model.specs.Calls.{expire, asks}
+use Rattle.ntsync.proofs.Laws.{front-room, handed-is}
+use native.Mathlib.Omega.{arith}
+use borrow.Author.Needs.{needs}
+use Rattle.ntsync.proofs.expire_woken.Statement.{statement}
+use Rattle.ntsync.proofs.expire_woken.Tie as tie
+use Rattle.ntsync.proofs.expire_woken.Reads as reads
+use Rattle.ntsync.proofs.expire_woken.Lts as lts
+use Rattle.ntsync.proofs.expire.Reads as expire-reads
+use Rattle.ntsync.proofs.front.Reads as front-reads
+
+-- src/lib.rt:485:9
+expire-requires : tie.Need-expire-requires
+expire-requires c κs = search needs
+
+-- src/lib.rt:486:16
+cast-t11 : tie.Need-cast-t11
+cast-t11 c = search needs
+
+-- src/lib.rt:486:33
+cast-t12 : tie.Need-cast-t12
+cast-t12 c = search needs
+
+-- src/lib.rt:486:52
+cast-t13 : tie.Need-cast-t13
+cast-t13 c = search needs
+
+-- src/lib.rt:487:5
+front-requires : tie.Need-front-requires
+front-requires c κs = let a = c .before .before .before .before .before .before .before .before .before .before .before .before .before .args in front-room (a .tables .now) (asks (expire (a .clock) (a .time)) (a .wake .now) []) (c .before .before .before .before .before .before .before .before .expire .ensures)
+
+-- src/lib.rt:476:1
+same-length : tie.Need-same-length
+same-length c = search needs
+
+-- src/lib.rt:476:1
+returns : tie.Need-returns
+returns c = let a = c .before .before .before .before .before .before .before .before .before .before .before .before .before .before .args in (handed-is (a .tables .now) (asks (expire (a .clock) (a .time)) (a .wake .now) []) (c .before .before .before .before .before .before .before .before .before .expire .ensures) (c .front .ensures .0), c .front .ensures .1)
+
+pub expire-woken-spec : {M : Type 1} → statement M
+expire-woken-spec =
+    tie.close
+    (tie.spec expire-requires cast-t11 cast-t12 cast-t13 front-requires same-length returns)
