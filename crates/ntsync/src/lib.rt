@@ -300,8 +300,8 @@ pub fn wait_all(
 fn refused(tables: &[u64], wake: &[u64]) -> u32
     ensures { λ r. ⌜ r ≡ cond (validCells (now (tables .entry))) (cond (ltb (length (now (wake .entry))) wakeLength) 12 0) 9 ⌝ }
 {
-    let corrupt = !validity::valid(tables);
-    if corrupt {
+    let sound = validity::valid(tables);
+    if !sound {
         return CORRUPT;
     }
     if wake.len() < WAKE_LENGTH {

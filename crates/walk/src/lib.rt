@@ -158,16 +158,23 @@ fn all_at(t: &mut [u64], p: usize) -> Attempted
     attempt::take_list(t, asking, &list[..n])
 }
 
-// A wait that was served leaves the queue and is told in record k; how many have been told.
-fn settle(t: &mut [u64], wake: &mut [u64], p: usize, k: usize, ticket: u64, a: Attempted) -> usize
-    requires { ⌜ (p < waitPlaces) × (k < waitPlaces) × (length (now t) ≡ tableLength) × (wakeLength ≤ length (now wake)) ⌝ }
-    ensures { λ r. ⌜ walked r (now (t .exit)) (now (wake .exit)) ≡ settled (triedBy a (now (t .entry))) p k ticket (now (wake .entry)) ⌝ }
+// A wait that was served leaves the queue and is told, after those that have been; how many are told then.
+fn settle(
+    t: &mut [u64],
+    wake: &mut [u64],
+    p: usize,
+    told: usize,
+    ticket: u64,
+    a: Attempted,
+) -> usize
+    requires { ⌜ (p < waitPlaces) × (told < waitPlaces) × (length (now t) ≡ tableLength) × (wakeLength ≤ length (now wake)) ⌝ }
+    ensures { λ r. ⌜ walked r (now (t .exit)) (now (wake .exit)) ≡ settled (triedBy a (now (t .entry))) p told ticket (now (wake .entry)) ⌝ }
 {
     if !a.served {
-        return k;
+        return told;
     }
-    leave(t, wake, p, k, ticket, a.answer as u64, a.index);
-    k + 1
+    leave(t, wake, p, told, ticket, a.answer as u64, a.index);
+    told + 1
 }
 
 fn serve_any(t: &mut [u64], wake: &mut [u64], p: usize, k: usize) -> usize

@@ -10,7 +10,7 @@ use Rattle.walk.proofs.leave.Reads as leave-reads
 
 -- src/lib.rt:167:9
 returns : tie.Need-returns
-returns c = let a = c .before .before .before .before .args in settled-not (triedBy (a .a) (a .t .now)) (a .p) (a .k) (a .ticket) (a .wake .now) (c .if1 .taken)
+returns c = let a = c .before .before .before .before .args in settled-not (triedBy (a .a) (a .t .now)) (a .p) (a .told) (a .ticket) (a .wake .now) (c .if1 .taken)
 
 -- src/lib.rt:169:34
 cast-leave : tie.Need-cast-leave
@@ -34,7 +34,7 @@ same-length-2 c = search needs
 
 -- src/lib.rt:162:1
 returns-2 : tie.Need-returns-2
-returns-2 c = let a = c .before .before .before .before .before .before .before .before .before .before .before .before .args in settled-left (triedBy (a .a) (a .t .now)) (a .p) (a .k) (a .ticket) (a .wake .now) (c .before .before .before .before .before .before .before .before .if1 .left) (c .before .before .before .before .leave .ensures .0) (c .before .before .before .before .leave .ensures .1)
+returns-2 c = let a = c .before .before .before .before .before .before .before .before .before .before .before .before .args in settled-left (triedBy (a .a) (a .t .now)) (a .p) (a .told) (a .ticket) (a .wake .now) (c .before .before .before .before .before .before .before .before .if1 .left) (c .before .before .before .before .leave .ensures .0) (c .before .before .before .before .leave .ensures .1)
 
 pub settle-spec : {M : Type 1} → statement M
 settle-spec =
