@@ -3,7 +3,7 @@ use Prim.Native.Nat.{ℕ, _+_, _-_, _*_}
 use mathlib.Core.List.{List}
 use mathlib.Core.Bool.{Bool, true, false, not, _&&_, _||_, cond}
 use lib.ListN.{set}
-use lib.Dec.{eqb, ltb}
+use lib.Dec.{eqb, ltb, leb}
 use Rattle.model.specs.Sizes.{objectPlaces, mutexCeiling}
 use Rattle.model.specs.Layout.{objectSize, inObject}
 
@@ -29,6 +29,9 @@ fieldsAt t p = fields (inObject t p 0) (inObject t p 1) (inObject t p 2) (inObje
 
 unfoldable pub putFields : List ℕ → ℕ → Fields → List ℕ
 putFields t p x = set (set (set (set t (objectCell p) (x .kind)) (objectCell p + 1) (x .count)) (objectCell p + 2) (x .owner)) (objectCell p + 3) (x .attribute)
+
+abbrev pub isHandle : ℕ → Bool
+isHandle h = ltb 0 h && leb h objectPlaces
 
 -- by handle; a number that is no handle names nothing, and nothing is stored there
 unfoldable pub named : List ℕ → ℕ → Fields

@@ -93,8 +93,8 @@ pub fn pulse(t: &mut [u64], wake: &mut [u64], h: u64) -> Changed
         return r;
     }
     let o = tables::named(t, h);
-    let c = o.switch(0);
-    tables::store(t, h, c.next);
+    let cleared = o.switch(0);
+    tables::store(t, h, cleared.next);
     r
 }
 

@@ -1,17 +1,18 @@
 -- What the accessors' definitions come to on each way through the code.
 use Prim.Native.Nat.{ℕ, _+_, _-_, _*_, _≤_, _<_}
 use mathlib.Core.Path.{_≡_, refl, ap, sym, _∙_}
-use mathlib.Core.Bool.{Bool, true, false, cond}
+use mathlib.Core.Bool.{Bool, true, false, _&&_, _||_, cond}
 use mathlib.Core.List.{List}
 use native.Mathlib.Omega.{arith}
 use lib.ListN.{length, getD, set, take, drop}
 use lib.Seq.{take-suc, take-suc-set, take-length}
 use lib.Dec.{eqb, ltb, leb}
 use native.Mathlib.Numerals.{add-one}
-use borrow.Author.Tests.{lt-ltb, le-ltb, le-leb, lt-leb, eq-eqb, ne-eqb, leb-true}
+use borrow.Author.Tests.{lt-ltb, le-ltb, le-leb, lt-leb, eq-eqb, ne-eqb, eqb-false, ltb-true, ltb-false, leb-true}
+use Rattle.model.proofs.Logic.{byBool, clash, and-split}
 use Rattle.model.specs.Sizes.{objectPlaces, waitPlaces, maxListed}
 use Rattle.model.specs.Layout.{headerSize, waitSize, tableLength, inWait}
-use Rattle.cells.specs.Objects.{Fields, fields, noFields, objectCell, fieldsAt, putFields, named, store}
+use Rattle.cells.specs.Objects.{Fields, fields, noFields, objectCell, fieldsAt, putFields, isHandle, named, store}
 use Rattle.cells.specs.Fold.{foldBelow, orBelow, cellFrom}
 use Rattle.cells.specs.Waits.{nextTicket, waitCell, countAt, listOf, namesOf}
 use Rattle.cells.specs.Calls.{putHeader, putList, queueCells, madeCells}
@@ -20,29 +21,38 @@ use Rattle.refine.proofs.Shapes.{or-all-zero, all-same}
 use Rattle.refine.proofs.Validity.{list-length, list-at}
 
 -- a handle or not
-pub named-zero : (t : List ℕ) (h : ℕ) → h ≡ 0 → noFields ≡ named t h
-unfolding named
-named-zero t h e = rw e
+module _ (h : ℕ) where
+  pub handle-low : isHandle h ≡ true → (0 < h) × (h ≤ objectPlaces)
+  handle-low e = let r = and-split (ltb 0 h) (leb h objectPlaces) e in (ltb-true 0 h (r .0), leb-true h objectPlaces (r .1))
 
-pub named-past : (t : List ℕ) (h : ℕ) → (h ≡ 0 → ⊥) → objectPlaces < h → noFields ≡ named t h
-unfolding named
-named-past t h n l = rw (ne-eqb h 0 n, lt-ltb objectPlaces h l)
+  some-handle : isHandle h ≡ true → (eqb h 0 ≡ false) × (ltb objectPlaces h ≡ false)
+  some-handle e = let r = handle-low e in (ne-eqb h 0 (λ z. let w : ⊥ = omega (arith, r .0) in w), le-ltb objectPlaces h (r .1))
 
-pub named-at : (t : List ℕ) (h : ℕ) → (h ≡ 0 → ⊥) → h ≤ objectPlaces → fieldsAt t (h - 1) ≡ named t h
-unfolding named
-named-at t h n l = rw (ne-eqb h 0 n, le-ltb objectPlaces h l)
+  no-handle : isHandle h ≡ false → (eqb h 0 || ltb objectPlaces h) ≡ true
+  no-handle e = byBool (eqb h 0) (λ y. rw y) (λ n. rw n (byBool (ltb objectPlaces h) (λ y. y)
+      (λ m. let a = eqb-false h 0 n in let p : ltb 0 h ≡ true = lt-ltb 0 h (omega arith) in let q : leb h objectPlaces ≡ true = le-leb h objectPlaces (ltb-false objectPlaces h m) in clash (let z : isHandle h ≡ true = rw (p, q) in z) e)))
 
-pub store-zero : (t : List ℕ) (h : ℕ) (x : Fields) → h ≡ 0 → t ≡ store t h x
-unfolding store
-store-zero t h x e = rw e
+neither : {A : Type 0} (a b : Bool) (x y : A) → (a || b) ≡ true → x ≡ cond a x (cond b x y)
+neither true b x y e = refl
+neither false true x y e = refl
+neither false false x y e = clash e refl
 
-pub store-past : (t : List ℕ) (h : ℕ) (x : Fields) → (h ≡ 0 → ⊥) → objectPlaces < h → t ≡ store t h x
-unfolding store
-store-past t h x n l = rw (ne-eqb h 0 n, lt-ltb objectPlaces h l)
+module _ (t : List ℕ) (h : ℕ) {b : Bool} (e : b ≡ isHandle h) where
+  pub named-at : b ≡ true → fieldsAt t (h - 1) ≡ named t h
+  unfolding named
+  named-at y = let r = some-handle h (sym e ∙ y) in rw (r .0, r .1)
 
-pub store-at : (t : List ℕ) (h : ℕ) (x : Fields) → (h ≡ 0 → ⊥) → h ≤ objectPlaces → putFields t (h - 1) x ≡ store t h x
-unfolding store
-store-at t h x n l = rw (ne-eqb h 0 n, le-ltb objectPlaces h l)
+  pub named-none : b ≡ false → noFields ≡ named t h
+  unfolding named
+  named-none n = neither (eqb h 0) (ltb objectPlaces h) noFields (fieldsAt t (h - 1)) (no-handle h (sym e ∙ n))
+
+  pub store-at : (x : Fields) → b ≡ true → putFields t (h - 1) x ≡ store t h x
+  unfolding store
+  store-at x y = let r = some-handle h (sym e ∙ y) in rw (r .0, r .1)
+
+  pub store-none : (x : Fields) → b ≡ false → t ≡ store t h x
+  unfolding store
+  store-none x n = neither (eqb h 0) (ltb objectPlaces h) t (putFields t (h - 1) x) (no-handle h (sym e ∙ n))
 
 pub fields-at : (t : List ℕ) (p : ℕ) → fields (getD t (objectCell p) 0) (getD t (objectCell p + 1) 0) (getD t (objectCell p + 2) 0) (getD t (objectCell p + 3) 0) ≡ fieldsAt t p
 unfolding fieldsAt

@@ -4,7 +4,7 @@ ghost use Prim.Native.Nat.{_+_, _≤_, _<_};
 ghost use lib.ListN.{length, getD, take};
 ghost use Rattle.model.specs.Sizes.{objectPlaces, waitPlaces, maxListed, word64};
 ghost use Rattle.model.specs.Layout.{objectSize, headerSize, waitSize, waitsBase, tableLength, inWait};
-ghost use Rattle.cells.specs.Objects.{fieldsAt, putFields, named, store};
+ghost use Rattle.cells.specs.Objects.{fieldsAt, putFields, isHandle, named, store};
 ghost use Rattle.cells.specs.Waits.{nextTicket, ticketAt, modeAt, ownerAt, clockAt, timeoutAt, countAt, alertAt, listOf, namesOf, has, namesAt, clearWait};
 ghost use Rattle.cells.specs.Calls.{emptyObject, ticketPlace, madeCells, putHeader, putList, queueCells};
 ghost use Rattle.cells.specs.Fold.{orBelow, cellFrom};
@@ -54,28 +54,27 @@ pub fn put_object(t: &mut [u64], p: usize, o: Object)
     t[at + 3] = o.attribute;
 }
 
+fn is_handle(h: u64) -> bool
+    ensures { λ r. ⌜ r ≡ isHandle h ⌝ }
+{
+    (0 < h) & (h <= (OBJECT_PLACES as u64))
+}
+
 // The object that a handle names; a number that is no handle names an empty place.
 pub fn named(t: &[u64], h: u64) -> Object
     requires { ⌜ length (now t) ≡ tableLength ⌝ }
     ensures { λ r. ⌜ cellsOf r ≡ named (now (t .entry)) h ⌝ }
 {
-    if h == 0 {
-        return Object {
-            kind: 0,
-            count: 0,
-            owner: 0,
-            attribute: 0,
-        };
+    let handle = is_handle(h);
+    if handle {
+        return object_at(t, (h - 1) as usize);
     }
-    if (OBJECT_PLACES as u64) < h {
-        return Object {
-            kind: 0,
-            count: 0,
-            owner: 0,
-            attribute: 0,
-        };
+    Object {
+        kind: 0,
+        count: 0,
+        owner: 0,
+        attribute: 0,
     }
-    object_at(t, (h - 1) as usize)
 }
 
 // Nothing is stored where the number is no handle.
@@ -83,13 +82,10 @@ pub fn store(t: &mut [u64], h: u64, o: Object)
     requires { ⌜ length (now t) ≡ tableLength ⌝ }
     ensures { λ _. ⌜ now (t .exit) ≡ store (now (t .entry)) h (cellsOf o) ⌝ }
 {
-    if h == 0 {
-        return;
+    let handle = is_handle(h);
+    if handle {
+        put_object(t, (h - 1) as usize, o);
     }
-    if (OBJECT_PLACES as u64) < h {
-        return;
-    }
-    put_object(t, (h - 1) as usize, o);
 }
 
 // The lowest empty object place; OBJECT_PLACES where there is none.
