@@ -1,4 +1,5 @@
 pub mod AcceptanceExamples
+pub mod WrongLibraries
 pub mod Logic
 pub mod Queue
 pub mod Acquiring
