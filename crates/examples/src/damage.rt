@@ -1,5 +1,5 @@
 // Damaged tables: for each line of "Sound tables" in document 01 one cell that breaks it, or two where a second line would
-// break as well. All calls but making are asked; each must answer 9 with zeros and leave every cell.
+// break as well. All calls but making are asked; each must answer 9 with zeros and leave every cell, of the wake list too.
 use crate::memory;
 use crate::memory::ALERT;
 use crate::memory::ATTRIBUTE;
@@ -22,6 +22,13 @@ use crate::memory::WAIT_OWNER;
 use crate::memory::WAIT_SIZE;
 use crate::memory::WAITS;
 use crate::print;
+use crate::waiting;
+use crate::waiting::NEVER;
+use crate::wakes;
+use crate::woken;
+use crate::woken::UNTOUCHED;
+use crate::woken::WAKE_LENGTH;
+use crate::woken::WakeList;
 
 // The first cells of places in the sound tables below.
 const SEMAPHORE: usize = 1;
@@ -49,8 +56,6 @@ const AFTER_LONG: usize = WAITS + 4 * WAIT_SIZE;
 const FREE: usize = WAITS + 5 * WAIT_SIZE;
 
 const LAST: usize = WAITS + 31 * WAIT_SIZE;
-
-const NEVER: u64 = 18446744073709551615;
 
 const WORD32: u64 = 4294967296;
 
@@ -113,13 +118,29 @@ fn ask_changes(t: &mut [u64]) {
     print::one(ntsync::cancel(t, 7));
 }
 
+fn ask_waits(t: &mut [u64]) {
+    print::text(b" wait");
+    let any = ntsync::wait_any(t, &[3], 9, 0, 0, 0, NEVER, 0);
+    waiting::heard(any.answer, any.index, any.ticket);
+    let all = ntsync::wait_all(t, &[3], 9, 0, 0, 0, NEVER, 0);
+    waiting::heard(all.answer, all.index, all.ticket);
+}
+
+fn ended(t: &[u64], before: &[u64], wake: &WakeList) {
+    memory::altered(t, before);
+    woken::rest(wake, 0);
+}
+
 fn ask(t: &mut [u64], before: &mut [u64], label: &[u8]) {
     memory::copy(t, before);
     print::text(label);
     ask_creates(t);
     ask_reads(t);
     ask_changes(t);
-    memory::verdict(t, before);
+    ask_waits(t);
+    let mut wake = [UNTOUCHED; WAKE_LENGTH];
+    wakes::ask(t, &mut wake, 1, 2, 3, 0);
+    ended(t, before, &wake);
 }
 
 fn ask_tables(t: &mut Cells, label: &[u8]) {

@@ -71,6 +71,14 @@ pub fn put(t: &mut [u64], at: usize, value: u64) {
     }
 }
 
+// A cell past the end reads as 0.
+pub fn cell(t: &[u64], at: usize) -> u64 {
+    if at < t.len() {
+        return t[at];
+    }
+    0
+}
+
 pub fn copy(from: &[u64], to: &mut [u64]) {
     let mut i = 0;
     while i < from.len() {
@@ -79,13 +87,18 @@ pub fn copy(from: &[u64], to: &mut [u64]) {
     }
 }
 
+pub fn altered(t: &[u64], before: &[u64]) {
+    if same(t, before) {
+        print::text(b" unaltered");
+    } else {
+        print::text(b" ALTERED");
+    }
+}
+
 // Ends a line with whether a cell changed.
 pub fn verdict(t: &[u64], before: &[u64]) {
-    if same(t, before) {
-        print::text(b" unaltered\n");
-    } else {
-        print::text(b" ALTERED\n");
-    }
+    altered(t, before);
+    print::end();
 }
 
 pub fn compared(t: &Cells, before: &Cells) {

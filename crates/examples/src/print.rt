@@ -5,10 +5,15 @@ pub fn text(s: &[u8]) {
     io::write_all(STDOUT_FILENO, s);
 }
 
+// The number with no space before it.
+pub fn bare(n: u64) {
+    io::print_decimal(STDOUT_FILENO, n);
+}
+
 // A space and the number.
 pub fn number(n: u64) {
     text(b" ");
-    io::print_decimal(STDOUT_FILENO, n);
+    bare(n);
 }
 
 pub fn one(a: u32) {
@@ -40,6 +45,13 @@ pub fn asked_two(call: &[u8], first: u32, word: &[u8], second: u32) {
 
 pub fn end() {
     text(b"\n");
+}
+
+// A line with a number of the program's own, as how many calls in a row were taken.
+pub fn counted(label: &[u8], n: u64) {
+    text(label);
+    number(n);
+    end();
 }
 
 pub fn heading(s: &[u8]) {
