@@ -11,11 +11,18 @@ use Rattle.cells.specs.Fold.{foldBelow}
 use Rattle.cells.specs.Objects.{Fields, fieldsAt}
 use Rattle.cells.specs.Waits.{nextTicket, queuedAt, ticketAt, modeAt, ownerAt, clockAt, timeoutAt, countAt, alertAt, listOf, nextWait}
 
+-- an object of each kind
+abbrev pub semaphoreText : ℕ → Fields → List ℕ
+semaphoreText h x = line "handle=" h ++ (ascii "kind=sem\n" ++ (line "count=" (x .count) ++ line "max=" (x .attribute)))
+
+abbrev pub mutexText : ℕ → Fields → List ℕ
+mutexText h x = line "handle=" h ++ (ascii "kind=mutex\n" ++ (line "owner=" (x .owner) ++ (line "count=" (x .count) ++ line "abandoned=" (x .attribute))))
+
+abbrev pub eventText : ℕ → Fields → List ℕ
+eventText h x = line "handle=" h ++ (ascii "kind=event\n" ++ (line "signaled=" (x .count) ++ line "manual=" (x .attribute)))
+
 unfoldable pub fieldsText : ℕ → Fields → List ℕ
-fieldsText h x =
-    cond (eqb (x .kind) 1) (line "handle=" h ++ (ascii "kind=sem\n" ++ (line "count=" (x .count) ++ line "max=" (x .attribute))))
-    (cond (eqb (x .kind) 2) (line "handle=" h ++ (ascii "kind=mutex\n" ++ (line "owner=" (x .owner) ++ (line "count=" (x .count) ++ line "abandoned=" (x .attribute)))))
-    (cond (eqb (x .kind) 3) (line "handle=" h ++ (ascii "kind=event\n" ++ (line "signaled=" (x .count) ++ line "manual=" (x .attribute)))) []))
+fieldsText h x = cond (eqb (x .kind) 1) (semaphoreText h x) (cond (eqb (x .kind) 2) (mutexText h x) (cond (eqb (x .kind) 3) (eventText h x) []))
 
 -- the objects of the places below n
 unfoldable pub objectsTextBelow : List ℕ → ℕ → List ℕ
@@ -30,10 +37,19 @@ waitTotal t = foldBelow (λ n p. n + bit (queuedAt t p)) 0 waitPlaces
 unfoldable pub listTextBelow : List ℕ → ℕ → List ℕ
 listTextBelow list n = foldBelow (λ text k. text ++ line "obj=" (getD list k 0)) [] n
 
+abbrev pub modeTextOf : ℕ → List ℕ
+modeTextOf mode = cond (eqb mode 0) (ascii "mode=any\n") (ascii "mode=all\n")
+
+abbrev pub clockTextOf : ℕ → List ℕ
+clockTextOf clock = cond (eqb clock 0) (ascii "clock=mono\n") (ascii "clock=real\n")
+
+-- a wait, by what is read of its place
+unfoldable pub waitLines : ℕ → ℕ → ℕ → ℕ → ℕ → ℕ → List ℕ → List ℕ
+waitLines ticket mode owner clock timeout alert list = line "wait=" ticket ++ (modeTextOf mode ++ (line "owner=" owner ++ (clockTextOf clock ++ (line "timeout=" timeout
+    ++ (line "alert=" alert ++ (line "n=" (length list) ++ listTextBelow list (length list)))))))
+
 unfoldable pub waitTextAt : List ℕ → ℕ → List ℕ
-waitTextAt t p = line "wait=" (ticketAt t p) ++ (cond (eqb (modeAt t p) 0) (ascii "mode=any\n") (ascii "mode=all\n") ++ (line "owner=" (ownerAt t p)
-    ++ (cond (eqb (clockAt t p) 0) (ascii "clock=mono\n") (ascii "clock=real\n") ++ (line "timeout=" (timeoutAt t p) ++ (line "alert=" (alertAt t p)
-    ++ (line "n=" (countAt t p) ++ listTextBelow (listOf t p) (countAt t p)))))))
+waitTextAt t p = waitLines (ticketAt t p) (modeAt t p) (ownerAt t p) (clockAt t p) (timeoutAt t p) (alertAt t p) (listOf t p)
 
 -- at most n waits above a ticket, lowest first
 unfoldable pub waitsTextFrom : ℕ → List ℕ → ℕ → List ℕ

@@ -22,7 +22,7 @@ use Rattle.model.proofs.Logic.{byBool, byOption, and-split, eqb-same}
 use Rattle.model.proofs.Valid.{Valid, waiting-none}
 use Rattle.model.proofs.Queue.{oldest-none, Oldest, oldest-some, count, count-length, count-le}
 use Rattle.model.proofs.Cells.{read-next, byPlace, Holds, holds}
-use Rattle.cells.specs.Snapshot.{fieldsText, objectsTextBelow, objectTotal, waitTotal, listTextBelow, waitTextAt, waitsTextFrom, snapshotOf}
+use Rattle.cells.specs.Snapshot.{fieldsText, objectsTextBelow, objectTotal, waitTotal, listTextBelow, waitLines, waitTextAt, waitsTextFrom, snapshotOf}
 use Rattle.cells.specs.Fold.{foldBelow}
 use Rattle.cells.specs.Objects.{fieldsAt}
 use Rattle.cells.specs.Waits.{queuedAt, nextWait}
@@ -87,8 +87,8 @@ clock-text zero = refl
 clock-text (suc c) = rw (eqb·suc-zero c)
 
 wait-text : (s : State) (p : ℕ) (w : Wait) → length (s .waits) ≡ waitPlaces → Holds s p w → waitTextAt (encode s) p ≡ waitText w
-unfolding waitTextAt waitText listTextBelow
-wait-text s p w q st = rw (ticket-at s p w st, mode-at s p w st, mode-text (w .mode), owner-at s p w st, clock-at s p w st, clock-text (w .clock), timeout-at s p w st, alert-at s p w st, count-at s p w st, list-of s p w st q, list-fold (w .list) [])
+unfolding waitTextAt waitLines waitText listTextBelow
+wait-text s p w q st = rw (ticket-at s p w st, mode-at s p w st, mode-text (w .mode), owner-at s p w st, clock-at s p w st, clock-text (w .clock), timeout-at s p w st, alert-at s p w st, list-of s p w st q, list-fold (w .list) [])
 
 waits-text : (n last : ℕ) (s : State) → Valid s → waitsTextFrom n (encode s) last ≡ joined waitText (queueFrom n last (s .waits))
 unfolding waitsTextFrom queueFrom joined
