@@ -5,11 +5,12 @@ use mathlib.Core.Bool.{Bool, true, false, not, cond}
 use mathlib.Core.List.{List, [], _∷_, append-nil}
 use native.Mathlib.Omega.{arith}
 use lib.ListN.{length, getD, take, drop, length-append}
-use lib.Seq.{take-append-add}
+use lib.Seq.{take-append-add, sets-eq}
+use native.Mathlib.Nat.{zero-add}
 use lib.Dec.{ltb}
 use borrow.Author.Tests.{eq-eqb, ne-eqb, lt-ltb, le-ltb, ltb-false}
-use Rattle.model.specs.Calls.{Operation, create, signal, expire, Kind, Signal, Lent, lend, Call, asks, badNew, change}
-use Rattle.model.specs.Sizes.{maxListed, word32, wakeLength}
+use Rattle.model.specs.Calls.{Operation, create, signal, expire, snapshot, Kind, Signal, Lent, lend, Call, asks, badNew, change}
+use Rattle.model.specs.Sizes.{maxListed, word32, wakeLength, snapshotBuffer, longestSnapshot}
 use Rattle.model.specs.Layout.{tableLength, view}
 use Rattle.model.specs.Basics.{overwrite}
 use Rattle.model.specs.Waits.{Report, wakeByWalk}
@@ -21,9 +22,11 @@ use Rattle.model.specs.Steps.{Outcome, records, completed, libraryStep, onTable
 use Rattle.model.proofs.Logic.{byBool, not-true, not-false, not-twice}
 use Rattle.cells.specs.Objects.{Fields, named}
 use Rattle.cells.specs.Validity.{validCells}
-use Rattle.cells.specs.Calls.{Result, answered, refusedWith, createCells, newFields, onCells, callCells, guarded, madeCells, makeCells, waitOnCells, signalOn, signalCells, expireOn, expireCells}
+use Rattle.cells.specs.Calls.{Result, answered, refusedWith, createCells, newFields, onCells, callCells, guarded, madeCells, makeCells, waitOnCells, signalOn, signalCells, expireOn, expireCells, snapshotCells}
+use Rattle.cells.specs.Snapshot.{snapshotOf}
+use Rattle.decimal.specs.Text.{Room, Wrote}
 use Rattle.refine.proofs.Validity.{Words, valid-length}
-use Rattle.refine.proofs.Refinement.{call-means, make-means}
+use Rattle.refine.proofs.Refinement.{call-means, make-means, snapshot-short}
 
 -- what the cells' result shows of an outcome
 abbrev pub shown : Result → List ℕ × List ℕ × List ℕ × List ℕ
@@ -157,3 +160,28 @@ module _ (t : List ℕ) (c : Call) {a x n : ℕ} {wake buffer u : List ℕ} (e :
 
   pub handed-is : {front : List ℕ} → front ≡ take (3 * n) wake → handed (tableStep t c) ≡ (a ∷ x ∷ n ∷ [], front, u)
   handed-is f = rw f (ap (λ (l : List ℕ). ((tableStep t c) .answer ∷ (tableStep t c) .first ∷ length ((tableStep t c) .reports) ∷ [], l, (tableStep t c) .held)) (sym ((filled t c) .0)) ∙ ap fronted e)
+
+-- THE SNAPSHOT, behind 9 and 12
+module _ (t buffer : List ℕ) {v : Bool} (w : Words t) (q : v ≡ validCells t) where
+  abbrev text : List ℕ
+  text = snapshotOf t
+
+  pub snapshot-corrupt : not v ≡ true → seen (tableStep t (asks snapshot [] buffer)) ≡ shown (refusedWith 9 t (lend [] buffer))
+  snapshot-corrupt y = means snapshot t [] buffer w (guarded-out t q (lend [] buffer) (onCells snapshot t (lend [] buffer)) y)
+
+  module _ (n : not v ≡ false) where
+    pub snapshot-refused : length buffer < snapshotBuffer → seen (tableStep t (asks snapshot [] buffer)) ≡ shown (refusedWith 12 t (lend [] buffer))
+    unfolding snapshotCells
+    snapshot-refused l = means snapshot t [] buffer w (guarded-in t q (lend [] buffer) n (rw (lt-ltb (length buffer) snapshotBuffer l)))
+
+    pub snapshot-low : length text ≤ longestSnapshot
+    snapshot-low = snapshot-short t w (found-valid t q n)
+
+    pub snapshot-room : snapshotBuffer ≤ length buffer → Room buffer 0 text
+    snapshot-room l = let h = snapshot-low in omega arith
+
+    pub snapshot-done : {k : ℕ} {end : List ℕ} → snapshotBuffer ≤ length buffer → Wrote buffer 0 text k end
+        → seen (tableStep t (asks snapshot [] buffer)) ≡ shown (record { answer = 0; first = k; second = 0; woken = 0; tables = t; wake = []; buffer = end })
+    unfolding snapshotCells
+    snapshot-done {k} {end} l r = let f : end ≡ overwrite text buffer = r .0 ∙ sets-eq text buffer 0 (snapshot-room l) ∙ rw (zero-add (length text)) in let j : k ≡ length text = r .1 ∙ zero-add (length text) in
+        means snapshot t [] buffer w (guarded-in t q (lend [] buffer) n (rw (le-ltb (length buffer) snapshotBuffer l, f, j)))

@@ -8,7 +8,7 @@ ghost use denote.Ref.{ptr};
 ghost use Prim.Native.Nat.{_*_, _≤_};
 ghost use lib.Dec.{ltb};
 ghost use Rattle.model.specs.Sizes.{wakeLength};
-ghost use Rattle.model.specs.Calls.{create, close, resetEvent, read, signal, cancel, wait, expire, post, unlock, kill, setEvent, pulseEvent, aSemaphore, aMutex, anEvent, lend, asks};
+ghost use Rattle.model.specs.Calls.{create, close, resetEvent, read, signal, cancel, snapshot, wait, expire, post, unlock, kill, setEvent, pulseEvent, aSemaphore, aMutex, anEvent, lend, asks};
 ghost use Rattle.cells.specs.Validity.{validCells};
 ghost use Rattle.model.specs.Steps.{tableStep, makeTables, seen, handed};
 ghost use Rattle.model.specs.Waits.{any, all};
@@ -55,12 +55,20 @@ pub struct Waited {
     pub ticket: u64,
 }
 
+#[repr(C)]
+pub struct Written {
+    pub answer: u32,
+    pub length: u32,
+}
+
 const CORRUPT: u32 = 9;
 
 const LIST_SHORT: u32 = 12;
 
 // A record for every wait place.
 const WAKE_LENGTH: usize = 3 * tables::WAIT_PLACES;
+
+const SNAPSHOT_BUFFER: usize = 32768;
 
 // Newly made tables; only the length is looked at.
 pub fn init(tables: &mut [u64]) -> u32
@@ -392,6 +400,32 @@ pub fn expire(tables: &mut [u64], wake: &mut [u64], clock: u32, time: u64) -> Ch
         };
     }
     signals::expire(tables, wake, clock as u64, time)
+}
+
+// ---- the snapshot
+
+// The text goes to the buffer's front; its length. Room is tested by the least length, which no snapshot reaches.
+pub fn snapshot(tables: &[u64], buffer: &mut [u8]) -> Written
+    ensures { λ r. ⌜ seen (tableStep (now (tables .entry)) (asks snapshot [] (now (buffer .entry)))) ≡ (r .answer ∷ r .length ∷ 0 ∷ 0 ∷ [], [], now (buffer .exit), now (tables .entry)) ⌝ }
+{
+    let corrupt = !validity::valid(tables);
+    if corrupt {
+        return Written {
+            answer: CORRUPT,
+            length: 0,
+        };
+    }
+    if buffer.len() < SNAPSHOT_BUFFER {
+        return Written {
+            answer: LIST_SHORT,
+            length: 0,
+        };
+    }
+    let length = snapshot::write(buffer, tables);
+    Written {
+        answer: 0,
+        length: length as u32,
+    }
 }
 
 // ---- the same calls, each handing out the filled front of the caller's own wake list, empty after a refusal; `result` gets

@@ -1,7 +1,8 @@
 -- The law that every public contract cites: on any 64-bit cells each call by cells is the library's step of the meaning.
 use mathlib.Core.Path.{_≡_, ap, sym, _∙_}
+use mathlib.Core.Bool.{true}
 use mathlib.Core.List.{List, append-nil}
-use Prim.Native.Nat.{ℕ, _+_}
+use Prim.Native.Nat.{ℕ, _+_, _≤_}
 use native.Mathlib.Omega.{arith}
 use native.Mathlib.Nat.{zero-add}
 use lib.ListN.{length, set, replicate, length-replicate}
@@ -22,6 +23,11 @@ use Rattle.refine.proofs.Calls.{told, create-is, close-is, read-is, res
 use Rattle.refine.proofs.Fold.{fold-clears}
 use Rattle.refine.proofs.Validity.{Words, valid-cells}
 use Rattle.refine.proofs.Wait.{wait-is}
+use Rattle.refine.proofs.Snapshot.{snapshot-of}
+use Rattle.model.proofs.SnapshotLength.{snapshot-longest}
+use Rattle.model.specs.Sizes.{longestSnapshot}
+use Rattle.cells.specs.Snapshot.{snapshotOf}
+use Rattle.cells.specs.Validity.{validCells}
 
 -- on the tables of a valid state
 pub call-is : (op : Operation) (l : Lent) (s : State) → Valid s → onCells op (encode s) l ≡ told (onTables (libraryStep s (record { operation = op; lent = l })))
@@ -53,3 +59,7 @@ zeros n t e =
 pub make-means : (t : List ℕ) → makeCells t ≡ told (makeTables t)
 unfolding makeCells madeCells makeTables
 make-means t = byBool (eqb (length t) tableLength) (λ y. rw (y, zeros tableLength t (eqb-true _ _ y), initial-tables)) (λ n. rw n)
+
+-- A SNAPSHOT of valid tables is short enough for the least buffer
+pub snapshot-short : (t : List ℕ) → Words t → validCells t ≡ true → length (snapshotOf t) ≤ longestSnapshot
+snapshot-short t words e = let r = tables-valid t (sym (valid-cells t words) ∙ e) in rw (r .0, snapshot-of (view t) (r .1)) (snapshot-longest (view t) (r .1))
