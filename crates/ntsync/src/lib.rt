@@ -234,10 +234,10 @@ pub fn cancel(tables: &mut [u64], ticket: u64) -> u32
 
 fn wait(
     tables: &mut [u64],
-    mode: u64,
     list: &[u32],
     owner: u32,
     alert: u32,
+    mode: u64,
     flags: u32,
     pad: u32,
     timeout: u64,
@@ -284,7 +284,7 @@ pub fn wait_any(
 ) -> Waited
     ensures { λ r. ⌜ seen (tableStep (now (tables .entry)) (asks (wait any (now (list .entry)) owner flags pad alert timeout time) [] [])) ≡ (r .answer ∷ r .index ∷ r .ticket ∷ 0 ∷ [], [], [], now (tables .exit)) ⌝ }
 {
-    wait(tables, 0, list, owner, alert, flags, pad, timeout, time)
+    wait(tables, list, owner, alert, 0, flags, pad, timeout, time)
 }
 
 pub fn wait_all(
@@ -299,7 +299,7 @@ pub fn wait_all(
 ) -> Waited
     ensures { λ r. ⌜ seen (tableStep (now (tables .entry)) (asks (wait all (now (list .entry)) owner flags pad alert timeout time) [] [])) ≡ (r .answer ∷ r .index ∷ r .ticket ∷ 0 ∷ [], [], [], now (tables .exit)) ⌝ }
 {
-    wait(tables, 1, list, owner, alert, flags, pad, timeout, time)
+    wait(tables, list, owner, alert, 1, flags, pad, timeout, time)
 }
 
 // ---- the calls that wake
