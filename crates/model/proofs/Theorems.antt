@@ -1,6 +1,6 @@
 -- The theorems. `tableStep t c` is the library's outcome of call c on the cells t, `referenceStep` the reference's (01: the
 -- fresh reckoning); definitions are in specs/. This file holds nothing else; the arguments are in the files beside it.
-use mathlib.Core.Path.{_≡_}
+use mathlib.Core.Path.{_≡_, ap}
 use mathlib.Core.Bool.{true, false, not}
 use mathlib.Core.List.{List, [], _∷_, map}
 use mathlib.Core.Option.{Option}
@@ -13,7 +13,7 @@ use Rattle.model.specs.Snapshot.{snapshotText}
 use Rattle.model.specs.Layout.{objectSize, tableLength, encode, inObject, view, validState, validTables}
 use Rattle.model.specs.Sizes.{objectPlaces, word64, snapshotBuffer, longestSnapshot}
 use Rattle.model.specs.ValidCells.{ValidCells}
-use Rattle.model.specs.Steps.{unaltered, conditions, referenceStep, onTables, tableStep, run, makeTables, refusalNumbers, FirstIs, _isIn_, Quiet, takenBy, touched}
+use Rattle.model.specs.Steps.{Outcome, unaltered, conditions, referenceStep, onTables, tableStep, seen, run, makeTables, refusalNumbers, FirstIs, _isIn_, Quiet, takenBy, touched}
 use Rattle.model.specs.Waits.{Mode, Wait, free, waiting, State, initial, objectAt, servable}
 use Rattle.model.proofs.History.{initial-settled}
 use Rattle.model.proofs.SnapshotLength.{snapshot-longest, snapshot-fits, longest, longest-length, longest-valid}
@@ -48,6 +48,11 @@ making t = make-either t
 pub rows-of-histories : (es : List (Option Call)) → All (λ e. maybe e (Unit {0}) Fits) es → run (λ t e. maybe e (makeTables t) (tableStep t)) (encode initial) es
     ≡ map onTables (run (λ s e. maybe e (unaltered 0 (lend [] []) initial) (referenceStep s)) initial es)
 rows-of-histories es fit = settled-rows initial es fit initial-settled
+
+-- 1c. So what a host sees, call by call (`seen`, in which every public contract is stated), is what it would see of the
+-- reference.
+pub demand-3-seen : (cs : List Call) → All Fits cs → map seen (run tableStep (encode initial) cs) ≡ map seen (map onTables (run referenceStep initial cs))
+demand-3-seen cs fit = ap (λ (os : List (Outcome (List ℕ))). map seen os) (demand-3 cs fit)
 
 -- 2. After every call of a history no queued wait could be served.
 pub always-quiet : (cs : List Call) → All Fits cs → All (λ o. Quiet (view (o .held))) (run tableStep (encode initial) cs)
