@@ -1,6 +1,6 @@
 -- Where the code's shape differs from the definition of `cells`: zeros by one OR-fold; repeats and occupied handles in one
 -- walk, by a flag for each number met.
-use Prim.Native.Nat.{ℕ, zero, suc, _+_, _<_, _%_}
+use Prim.Native.Nat.{ℕ, zero, suc, _+_, _*_, _<_, _%_}
 use mathlib.Core.Path.{_≡_, refl, sym, ap, _∙_}
 use mathlib.Core.Bool.{Bool, true, false, not, _&&_, _||_, and-false, or-true, or-false}
 use mathlib.Core.List.{List, [], _∷_}
@@ -38,7 +38,7 @@ all-same f g (suc n) h = rw (all-same f g n h, h n)
 
 -- FLAGS, more than there are handles
 abbrev pub marks : ℕ
-marks = 256
+marks = 2 * objectPlaces
 
 abbrev belowMarks : List ℕ → Bool
 belowMarks list = allBelow (λ i. ltb (getD list i 0) marks) (length list)

@@ -18,7 +18,7 @@ use kinds::Semaphore;
 const WORD32: u64 = 4294967296;
 
 // Flags for the numbers below it, among them every handle.
-const MARKS: usize = 256;
+const MARKS: usize = 2 * tables::OBJECT_PLACES;
 
 // ---- objects
 
