@@ -1,0 +1,195 @@
+// The C interface (include/ntsync.h): each public call under its C name, with the same equation. A slice is a pointer and its
+// number of elements.
+ghost use mathlib.Core.Path.{_≡_};
+ghost use mathlib.Core.List.{[], _∷_};
+ghost use Rattle.model.specs.Calls.{create, close, resetEvent, read, signal, cancel, snapshot, wait, expire, post, unlock, kill, setEvent, pulseEvent, aSemaphore, aMutex, anEvent, asks};
+ghost use Rattle.model.specs.Steps.{tableStep, makeTables, seen};
+ghost use Rattle.model.specs.Waits.{any, all};
+use ntsync::Created;
+use ntsync::EventState;
+use ntsync::MutexState;
+use ntsync::SemaphoreState;
+use ntsync::Waited;
+use ntsync::Written;
+use signals::Changed;
+
+// It rises with every change of a signature or of an argument's meaning; the header has the same number.
+pub const VERSION: u32 = 1;
+
+#[no_mangle]
+pub extern "C" fn ntsync_version() -> u32
+    ensures { λ r. ⌜ r ≡ 1 ⌝ }
+{
+    VERSION
+}
+
+#[no_mangle]
+pub extern "C" fn ntsync_init(tables: &mut [u64]) -> u32
+    ensures { λ r. ⌜ seen (makeTables (now (tables .entry))) ≡ (r ∷ 0 ∷ 0 ∷ 0 ∷ [], [], [], now (tables .exit)) ⌝ }
+{
+    ntsync::init(tables)
+}
+
+#[no_mangle]
+pub extern "C" fn ntsync_create_sem(tables: &mut [u64], count: u32, max: u32) -> Created
+    ensures { λ r. ⌜ seen (tableStep (now (tables .entry)) (asks (create aSemaphore count max) [] [])) ≡ (r .answer ∷ r .handle ∷ 0 ∷ 0 ∷ [], [], [], now (tables .exit)) ⌝ }
+{
+    ntsync::create_sem(tables, count, max)
+}
+
+#[no_mangle]
+pub extern "C" fn ntsync_create_mutex(tables: &mut [u64], owner: u32, count: u32) -> Created
+    ensures { λ r. ⌜ seen (tableStep (now (tables .entry)) (asks (create aMutex owner count) [] [])) ≡ (r .answer ∷ r .handle ∷ 0 ∷ 0 ∷ [], [], [], now (tables .exit)) ⌝ }
+{
+    ntsync::create_mutex(tables, owner, count)
+}
+
+#[no_mangle]
+pub extern "C" fn ntsync_create_event(tables: &mut [u64], signaled: u32, manual: u32) -> Created
+    ensures { λ r. ⌜ seen (tableStep (now (tables .entry)) (asks (create anEvent signaled manual) [] [])) ≡ (r .answer ∷ r .handle ∷ 0 ∷ 0 ∷ [], [], [], now (tables .exit)) ⌝ }
+{
+    ntsync::create_event(tables, signaled, manual)
+}
+
+#[no_mangle]
+pub extern "C" fn ntsync_read_sem(tables: &[u64], handle: u32) -> SemaphoreState
+    ensures { λ r. ⌜ seen (tableStep (now (tables .entry)) (asks (read aSemaphore handle) [] [])) ≡ (r .answer ∷ r .count ∷ r .max ∷ 0 ∷ [], [], [], now (tables .entry)) ⌝ }
+{
+    ntsync::read_sem(tables, handle)
+}
+
+#[no_mangle]
+pub extern "C" fn ntsync_read_mutex(tables: &[u64], handle: u32) -> MutexState
+    ensures { λ r. ⌜ seen (tableStep (now (tables .entry)) (asks (read aMutex handle) [] [])) ≡ (r .answer ∷ r .owner ∷ r .count ∷ 0 ∷ [], [], [], now (tables .entry)) ⌝ }
+{
+    ntsync::read_mutex(tables, handle)
+}
+
+#[no_mangle]
+pub extern "C" fn ntsync_read_event(tables: &[u64], handle: u32) -> EventState
+    ensures { λ r. ⌜ seen (tableStep (now (tables .entry)) (asks (read anEvent handle) [] [])) ≡ (r .answer ∷ r .signaled ∷ r .manual ∷ 0 ∷ [], [], [], now (tables .entry)) ⌝ }
+{
+    ntsync::read_event(tables, handle)
+}
+
+#[no_mangle]
+pub extern "C" fn ntsync_close(tables: &mut [u64], handle: u32) -> u32
+    ensures { λ r. ⌜ seen (tableStep (now (tables .entry)) (asks (close handle) [] [])) ≡ (r ∷ 0 ∷ 0 ∷ 0 ∷ [], [], [], now (tables .exit)) ⌝ }
+{
+    ntsync::close(tables, handle)
+}
+
+#[no_mangle]
+pub extern "C" fn ntsync_reset(tables: &mut [u64], handle: u32) -> Changed
+    ensures { λ r. ⌜ seen (tableStep (now (tables .entry)) (asks (resetEvent handle) [] [])) ≡ (r .answer ∷ r .previous ∷ 0 ∷ r .woken ∷ [], [], [], now (tables .exit)) ⌝ }
+{
+    ntsync::reset(tables, handle)
+}
+
+#[no_mangle]
+pub extern "C" fn ntsync_cancel(tables: &mut [u64], ticket: u64) -> u32
+    ensures { λ r. ⌜ seen (tableStep (now (tables .entry)) (asks (cancel ticket) [] [])) ≡ (r ∷ 0 ∷ 0 ∷ 0 ∷ [], [], [], now (tables .exit)) ⌝ }
+{
+    ntsync::cancel(tables, ticket)
+}
+
+#[no_mangle]
+pub extern "C" fn ntsync_wait_any(
+    tables: &mut [u64],
+    list: &[u32],
+    owner: u32,
+    alert: u32,
+    flags: u32,
+    pad: u32,
+    timeout: u64,
+    time: u64,
+) -> Waited
+    ensures { λ r. ⌜ seen (tableStep (now (tables .entry)) (asks (wait any (now (list .entry)) owner flags pad alert timeout time) [] [])) ≡ (r .answer ∷ r .index ∷ r .ticket ∷ 0 ∷ [], [], [], now (tables .exit)) ⌝ }
+{
+    ntsync::wait_any(tables, list, owner, alert, flags, pad, timeout, time)
+}
+
+#[no_mangle]
+pub extern "C" fn ntsync_wait_all(
+    tables: &mut [u64],
+    list: &[u32],
+    owner: u32,
+    alert: u32,
+    flags: u32,
+    pad: u32,
+    timeout: u64,
+    time: u64,
+) -> Waited
+    ensures { λ r. ⌜ seen (tableStep (now (tables .entry)) (asks (wait all (now (list .entry)) owner flags pad alert timeout time) [] [])) ≡ (r .answer ∷ r .index ∷ r .ticket ∷ 0 ∷ [], [], [], now (tables .exit)) ⌝ }
+{
+    ntsync::wait_all(tables, list, owner, alert, flags, pad, timeout, time)
+}
+
+#[no_mangle]
+pub extern "C" fn ntsync_post(
+    tables: &mut [u64],
+    wake: &mut [u64],
+    handle: u32,
+    add: u32,
+) -> Changed
+    ensures { λ r. ⌜ seen (tableStep (now (tables .entry)) (asks (signal (post add) handle) (now (wake .entry)) [])) ≡ (r .answer ∷ r .previous ∷ 0 ∷ r .woken ∷ [], now (wake .exit), [], now (tables .exit)) ⌝ }
+{
+    ntsync::post(tables, wake, handle, add)
+}
+
+#[no_mangle]
+pub extern "C" fn ntsync_unlock(
+    tables: &mut [u64],
+    wake: &mut [u64],
+    handle: u32,
+    owner: u32,
+) -> Changed
+    ensures { λ r. ⌜ seen (tableStep (now (tables .entry)) (asks (signal (unlock owner) handle) (now (wake .entry)) [])) ≡ (r .answer ∷ r .previous ∷ 0 ∷ r .woken ∷ [], now (wake .exit), [], now (tables .exit)) ⌝ }
+{
+    ntsync::unlock(tables, wake, handle, owner)
+}
+
+#[no_mangle]
+pub extern "C" fn ntsync_kill_owner(
+    tables: &mut [u64],
+    wake: &mut [u64],
+    handle: u32,
+    owner: u32,
+) -> Changed
+    ensures { λ r. ⌜ seen (tableStep (now (tables .entry)) (asks (signal (kill owner) handle) (now (wake .entry)) [])) ≡ (r .answer ∷ r .previous ∷ 0 ∷ r .woken ∷ [], now (wake .exit), [], now (tables .exit)) ⌝ }
+{
+    ntsync::kill_owner(tables, wake, handle, owner)
+}
+
+#[no_mangle]
+pub extern "C" fn ntsync_set(tables: &mut [u64], wake: &mut [u64], handle: u32) -> Changed
+    ensures { λ r. ⌜ seen (tableStep (now (tables .entry)) (asks (signal setEvent handle) (now (wake .entry)) [])) ≡ (r .answer ∷ r .previous ∷ 0 ∷ r .woken ∷ [], now (wake .exit), [], now (tables .exit)) ⌝ }
+{
+    ntsync::set(tables, wake, handle)
+}
+
+#[no_mangle]
+pub extern "C" fn ntsync_pulse(tables: &mut [u64], wake: &mut [u64], handle: u32) -> Changed
+    ensures { λ r. ⌜ seen (tableStep (now (tables .entry)) (asks (signal pulseEvent handle) (now (wake .entry)) [])) ≡ (r .answer ∷ r .previous ∷ 0 ∷ r .woken ∷ [], now (wake .exit), [], now (tables .exit)) ⌝ }
+{
+    ntsync::pulse(tables, wake, handle)
+}
+
+#[no_mangle]
+pub extern "C" fn ntsync_expire(
+    tables: &mut [u64],
+    wake: &mut [u64],
+    clock: u32,
+    time: u64,
+) -> Changed
+    ensures { λ r. ⌜ seen (tableStep (now (tables .entry)) (asks (expire clock time) (now (wake .entry)) [])) ≡ (r .answer ∷ r .previous ∷ 0 ∷ r .woken ∷ [], now (wake .exit), [], now (tables .exit)) ⌝ }
+{
+    ntsync::expire(tables, wake, clock, time)
+}
+
+#[no_mangle]
+pub extern "C" fn ntsync_snapshot(tables: &[u64], buffer: &mut [u8]) -> Written
+    ensures { λ r. ⌜ seen (tableStep (now (tables .entry)) (asks snapshot [] (now (buffer .entry)))) ≡ (r .answer ∷ r .length ∷ 0 ∷ 0 ∷ [], [], now (buffer .exit), now (tables .entry)) ⌝ }
+{
+    ntsync::snapshot(tables, buffer)
+}
