@@ -78,12 +78,12 @@ fn put_objects(t: &mut Cells) {
 fn put_sound(t: &mut Cells) {
     put_objects(t);
     memory::put(t, 0, 9);
-    memory::put_wait(t, ANY, &[5, 0, 9, 0, 100, 2, 4, 1, 4]);
-    memory::put_wait(t, ALL, &[6, 1, 10, 1, NEVER, 2, 3, 1, 4]);
-    memory::put_wait(t, SINGLE, &[7, 0, 11, 0, 0, 1, 0, 1]);
-    memory::put_wait(t, LONG, &[8, 0, 12, 0, 0, 64, 0]);
+    memory::put_row(t, ANY, &[5, 0, 9, 0, 100, 2, 4, 1, 4]);
+    memory::put_row(t, ALL, &[6, 1, 10, 1, NEVER, 2, 3, 1, 4]);
+    memory::put_row(t, SINGLE, &[7, 0, 11, 0, 0, 1, 0, 1]);
+    memory::put_row(t, LONG, &[8, 0, 12, 0, 0, 64, 0]);
     memory::put_list(t, LONG_LIST, LONG_LIST + 64, 1);
-    memory::put_wait(t, AFTER_LONG, &[1, 0, 4294967295, 0, 0, 1, 0, 1]);
+    memory::put_row(t, AFTER_LONG, &[1, 0, 4294967295, 0, 0, 1, 0, 1]);
 }
 
 // ---- all calls

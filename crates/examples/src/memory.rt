@@ -80,11 +80,7 @@ pub fn cell(t: &[u64], at: usize) -> u64 {
 }
 
 pub fn copy(from: &[u64], to: &mut [u64]) {
-    let mut i = 0;
-    while i < from.len() {
-        put(to, i, from[i]);
-        i += 1;
-    }
+    put_row(to, 0, from);
 }
 
 pub fn altered(t: &[u64], before: &[u64]) {
@@ -105,12 +101,12 @@ pub fn compared(t: &Cells, before: &Cells) {
     verdict(t, before);
 }
 
-// Writes a wait from the first cell of its place on: ticket, mode, owner, clock, timeout, count, alert, list.
-pub fn put_wait(t: &mut [u64], at: usize, row: &[u64]) {
+// Writes a row from the cell `at` on: a wait as ticket, mode, owner, clock, timeout, count, alert, list.
+pub fn put_row(t: &mut [u64], at: usize, row: &[u64]) {
     if at > TABLE_LENGTH {
         return;
     }
-    if row.len() > WAIT_SIZE {
+    if row.len() > SPACE_LENGTH {
         return;
     }
     let mut i = 0;
@@ -122,9 +118,9 @@ pub fn put_wait(t: &mut [u64], at: usize, row: &[u64]) {
 
 // Lists the handle in the cells from `at` up to `end`.
 pub fn put_list(t: &mut [u64], at: usize, end: usize, handle: u64) {
-    let mut i = at;
-    while i < end {
-        put(t, i, handle);
-        i += 1;
+    let mut cell = at;
+    while cell < end {
+        put(t, cell, handle);
+        cell += 1;
     }
 }

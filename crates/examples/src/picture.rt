@@ -9,6 +9,7 @@ use crate::memory;
 use crate::memory::Cells;
 use crate::memory::TABLE_LENGTH;
 use crate::print;
+use crate::queues;
 use crate::waiting;
 use crate::waiting::NEVER;
 use crate::woken;
@@ -185,24 +186,6 @@ fn create_mutexes(t: &mut Cells) -> u32 {
     i
 }
 
-fn is_queued(t: &mut Cells) -> bool {
-    let list = [128u32; 64];
-    let r = ntsync::wait_any(t, &list, CEILING, 128, 0, 0, NEVER, 0);
-    r.answer == 11
-}
-
-// How many waits in a row were queued, at most 32.
-fn queue_all(t: &mut Cells) -> u32 {
-    let mut i: u32 = 0;
-    while i < 32 {
-        if !is_queued(t) {
-            return i;
-        }
-        i += 1;
-    }
-    i
-}
-
 // Every number has as many digits as it can have; the event of handle 128 is every wait's alert and all of its list. The next
 // ticket is written, because no program makes so many calls; the waits then spend the last 32 tickets.
 fn put_longest(t: &mut Cells) {
@@ -211,7 +194,9 @@ fn put_longest(t: &mut Cells) {
     asked::create_event(t, 0, 0);
     memory::put(t, 0, NEVER - 32);
     next_ticket(t);
-    print::counted(b"queued in a row:", queue_all(t) as u64);
+    let list = [128u32; 64];
+    let queued = queues::queue_all(t, &list, CEILING, 128);
+    print::counted(b"queued in a row:", queued as u64);
 }
 
 // 28,425 bytes, which as the length of a buffer are too few.

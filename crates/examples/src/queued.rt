@@ -6,7 +6,7 @@ use crate::memory::Cells;
 use crate::print;
 
 fn queue(t: &mut Cells) {
-    memory::put_wait(
+    memory::put_row(
         t,
         memory::WAITS,
         &[5, 0, 9, 0, 18446744073709551615, 1, 2, 1],

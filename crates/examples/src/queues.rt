@@ -11,16 +11,16 @@ const WAIT_PLACES: u32 = 32;
 
 // ---- many calls in a row
 
-fn is_queued(t: &mut Cells) -> bool {
-    let r = ntsync::wait_any(t, &[1], 9, 0, 0, 0, NEVER, 0);
+fn is_queued(t: &mut Cells, list: &[u32], owner: u32, alert: u32) -> bool {
+    let r = ntsync::wait_any(t, list, owner, alert, 0, 0, NEVER, 0);
     r.answer == 11
 }
 
-// How many waits for handle 1 in a row were queued, at most 32.
-fn queue_all(t: &mut Cells) -> u32 {
+// How many waits for any of the list in a row were queued, at most 32.
+pub fn queue_all(t: &mut Cells, list: &[u32], owner: u32, alert: u32) -> u32 {
     let mut i: u32 = 0;
     while i < WAIT_PLACES {
-        if !is_queued(t) {
+        if !is_queued(t, list, owner, alert) {
             return i;
         }
         i += 1;
@@ -29,7 +29,7 @@ fn queue_all(t: &mut Cells) -> u32 {
 }
 
 pub fn fill(t: &mut Cells) {
-    print::counted(b"queued in a row:", queue_all(t) as u64);
+    print::counted(b"queued in a row:", queue_all(t, &[1], 9, 0) as u64);
 }
 
 // How many creations in a row gave the handles 1, 2, 3 and on, at most n.

@@ -96,7 +96,7 @@ pub extern "C" fn ntsync_cancel(tables: &mut [u64], ticket: u64) -> u32
 #[no_mangle]
 pub extern "C" fn ntsync_wait_any(
     tables: &mut [u64],
-    list: &[u32],
+    handles: &[u32],
     owner: u32,
     alert: u32,
     flags: u32,
@@ -104,15 +104,15 @@ pub extern "C" fn ntsync_wait_any(
     timeout: u64,
     time: u64,
 ) -> Waited
-    ensures { λ r. ⌜ seen (tableStep (now (tables .entry)) (asks (wait any (now (list .entry)) owner flags pad alert timeout time) [] [])) ≡ (r .answer ∷ r .index ∷ r .ticket ∷ 0 ∷ [], [], [], now (tables .exit)) ⌝ }
+    ensures { λ r. ⌜ seen (tableStep (now (tables .entry)) (asks (wait any (now (handles .entry)) owner flags pad alert timeout time) [] [])) ≡ (r .answer ∷ r .index ∷ r .ticket ∷ 0 ∷ [], [], [], now (tables .exit)) ⌝ }
 {
-    ntsync::wait_any(tables, list, owner, alert, flags, pad, timeout, time)
+    ntsync::wait_any(tables, handles, owner, alert, flags, pad, timeout, time)
 }
 
 #[no_mangle]
 pub extern "C" fn ntsync_wait_all(
     tables: &mut [u64],
-    list: &[u32],
+    handles: &[u32],
     owner: u32,
     alert: u32,
     flags: u32,
@@ -120,9 +120,9 @@ pub extern "C" fn ntsync_wait_all(
     timeout: u64,
     time: u64,
 ) -> Waited
-    ensures { λ r. ⌜ seen (tableStep (now (tables .entry)) (asks (wait all (now (list .entry)) owner flags pad alert timeout time) [] [])) ≡ (r .answer ∷ r .index ∷ r .ticket ∷ 0 ∷ [], [], [], now (tables .exit)) ⌝ }
+    ensures { λ r. ⌜ seen (tableStep (now (tables .entry)) (asks (wait all (now (handles .entry)) owner flags pad alert timeout time) [] [])) ≡ (r .answer ∷ r .index ∷ r .ticket ∷ 0 ∷ [], [], [], now (tables .exit)) ⌝ }
 {
-    ntsync::wait_all(tables, list, owner, alert, flags, pad, timeout, time)
+    ntsync::wait_all(tables, handles, owner, alert, flags, pad, timeout, time)
 }
 
 #[no_mangle]

@@ -10,10 +10,10 @@ use Rattle.examples.proofs.memory.put_list.Lts as lts
 use Rattle.examples.proofs.memory.put.Reads as put-reads
 
 abbrev Inv-loop : tie.InvT-loop
-Inv-loop t₀ at end handle i₀ t i = length t ≡ length t₀
+Inv-loop t₀ at end handle cell₀ t cell = length t ≡ length t₀
 
 abbrev μ-loop : tie.MeasureT-loop
-μ-loop t₀ at end handle i₀ t i = end - i
+μ-loop t₀ at end handle cell₀ t cell = end - cell
 
 loop-holds : tie.Need-loop-holds Inv-loop μ-loop
 loop-holds c = search needs
@@ -21,8 +21,8 @@ loop-holds c = search needs
 put-requires : tie.Need-put-requires Inv-loop μ-loop
 put-requires c κs = search needs
 
-add-i : tie.Need-add-i Inv-loop μ-loop
-add-i c = search needs
+add-cell : tie.Need-add-cell Inv-loop μ-loop
+add-cell c = search needs
 
 loop-less : tie.Need-loop-less Inv-loop μ-loop
 loop-less c = search needs
@@ -44,7 +44,7 @@ put-list-spec =
     μ-loop
     loop-holds
     put-requires
-    add-i
+    add-cell
     loop-less
     loop-again
     same-length

@@ -8,10 +8,10 @@ use Rattle.examples.proofs.queues.queue_all.Lts as lts
 use Rattle.examples.proofs.queues.is_queued.Reads as is-queued-reads
 
 abbrev Inv-loop : tie.InvT-loop
-Inv-loop t₀ i₀ t i = i ≤ 32
+Inv-loop t₀ list owner alert i₀ t i = i ≤ 32
 
 abbrev μ-loop : tie.MeasureT-loop
-μ-loop t₀ i₀ t i = 32 - i
+μ-loop t₀ list owner alert i₀ t i = 32 - i
 
 loop-holds : tie.Need-loop-holds Inv-loop μ-loop
 loop-holds c = search needs

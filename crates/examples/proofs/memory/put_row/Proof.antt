@@ -1,22 +1,31 @@
 use native.Mathlib.Omega.{arith}
 use borrow.Author.Needs.{needs}
 use Prim.Native.Nat.{ℕ, _≤_, _-_}
-use lib.ListN.{length, length-set}
+use lib.ListN.{length}
 use mathlib.Core.Path.{_≡_}
-use Rattle.examples.proofs.memory.copy.Statement.{statement}
-use Rattle.examples.proofs.memory.copy.Tie as tie
-use Rattle.examples.proofs.memory.copy.Reads as reads
-use Rattle.examples.proofs.memory.copy.Lts as lts
+use Rattle.examples.proofs.memory.put_row.Statement.{statement}
+use Rattle.examples.proofs.memory.put_row.Tie as tie
+use Rattle.examples.proofs.memory.put_row.Reads as reads
+use Rattle.examples.proofs.memory.put_row.Lts as lts
 use Rattle.examples.proofs.memory.put.Reads as put-reads
 
 abbrev Inv-loop : tie.InvT-loop
-Inv-loop from to₀ i₀ to i = (i ≤ length from) × (length to ≡ length to₀)
+Inv-loop t₀ at row i₀ t i = (i ≤ length row) × (length t ≡ length t₀)
 
 abbrev μ-loop : tie.MeasureT-loop
-μ-loop from to₀ i₀ to i = length from - i
+μ-loop t₀ at row i₀ t i = length row - i
+
+returns : tie.Need-returns Inv-loop μ-loop
+returns c = search needs
+
+returns-2 : tie.Need-returns-2 Inv-loop μ-loop
+returns-2 c = search needs
 
 loop-holds : tie.Need-loop-holds Inv-loop μ-loop
 loop-holds c = search needs
+
+add-put : tie.Need-add-put Inv-loop μ-loop
+add-put c = search needs
 
 mul-put : tie.Need-mul-put Inv-loop μ-loop
 mul-put c = search needs
@@ -39,16 +48,19 @@ loop-again c = search needs
 same-length : tie.Need-same-length Inv-loop μ-loop
 same-length c = search needs
 
-returns : tie.Need-returns Inv-loop μ-loop
-returns c = search needs
+returns-3 : tie.Need-returns-3 Inv-loop μ-loop
+returns-3 c = search needs
 
-pub copy-spec : {M : Type 1} → statement M
-copy-spec =
+pub put-row-spec : {M : Type 1} → statement M
+put-row-spec =
     tie.close
     (tie.spec
     Inv-loop
     μ-loop
+    returns
+    returns-2
     loop-holds
+    add-put
     mul-put
     shared-slice-read-put
     put-requires
@@ -56,4 +68,4 @@ copy-spec =
     loop-less
     loop-again
     same-length
-    returns)
+    returns-3)
