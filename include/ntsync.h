@@ -1,0 +1,208 @@
+/* ntsync: NT semaphores, mutexes and events over tables that the host lends. Link with libntsync.a (hosts/build).
+ *
+ * The tables are NTSYNC_CELLS cells of the host's own memory; all state is in them. No function keeps anything between
+ * calls, allocates, blocks or reads a clock. Waiting does not block: a wait is served, times out, or is queued under a
+ * ticket, and a later call writes that ticket to the wake list that the host lends it.
+ *
+ * The host owes what any C function is owed: pointers that are aligned, valid for their lengths and not null, not even for
+ * a length of 0, and no overlap between what is lent for writing and anything else lent to the same call. Lengths are
+ * numbers of elements; an array has at most PTRDIFF_MAX bytes. Nothing else has to be checked: every content, length,
+ * handle, flag and time gets a stated answer. Two calls on the same tables must not run at the same time.
+ *
+ * Answers. NTSYNC_EINVAL, EPERM, EOVERFLOW, NO_ROOM, TICKETS_SPENT, CORRUPT, BUSY and LIST_SHORT are refusals: the call
+ * altered nothing, and every number beside the answer is 0. Every call but ntsync_version and ntsync_init first answers
+ * NTSYNC_CORRUPT if the tables are not NTSYNC_CELLS long or break a rule of docs/LAYOUT.md; then NTSYNC_LIST_SHORT if it is
+ * lent too short a wake list or buffer; then what its comment says, in that order. A handle that is 0, unknown, closed or
+ * of another kind of object is always NTSYNC_EINVAL. */
+#ifndef NTSYNC_H
+#define NTSYNC_H
+
+#include <stddef.h>
+#include <stdint.h>
+
+/* Rises with every change of a signature or of an argument's meaning. A host compares it with ntsync_version() at its
+ * start. */
+#define NTSYNC_VERSION 1
+
+/* ---- sizes */
+
+#define NTSYNC_CELLS 2785           /* cells of the tables */
+#define NTSYNC_OBJECT_PLACES 128    /* objects at most; handles are 1 to 128 */
+#define NTSYNC_WAIT_PLACES 32       /* queued waits at most */
+#define NTSYNC_MAX_LISTED 64        /* handles in a wait's list at most; 1 at least */
+#define NTSYNC_RECORD_CELLS 3       /* cells of a wake record: ticket, answer, index */
+#define NTSYNC_WAKE_CELLS 96        /* cells of a wake list at least: a record for every wait place */
+#define NTSYNC_SNAPSHOT_BYTES 32768 /* bytes of a snapshot's buffer at least */
+
+/* ---- clocks and times */
+
+#define NTSYNC_MONOTONIC 0      /* clock of ntsync_expire; flags of a wait on that clock */
+#define NTSYNC_REALTIME 1       /* likewise, the real-time clock */
+#define NTSYNC_NEVER UINT64_MAX /* a timeout that no time reaches */
+
+/* ---- answers */
+
+#define NTSYNC_DONE 0          /* the call took effect; the wait was served */
+#define NTSYNC_EINVAL 1        /* bad argument */
+#define NTSYNC_EPERM 2         /* that owner does not hold the mutex */
+#define NTSYNC_EOVERFLOW 3     /* the post would exceed the semaphore's maximum */
+#define NTSYNC_EOWNERDEAD 4    /* an abandoned mutex was acquired, or read; no refusal */
+#define NTSYNC_ETIMEDOUT 5     /* the wait's time was up; no object was altered */
+#define NTSYNC_EINTR 6         /* the queued wait was cancelled */
+#define NTSYNC_NO_ROOM 7       /* no empty object place, or no empty wait place */
+#define NTSYNC_TICKETS_SPENT 8 /* all 2^64-2 tickets were given */
+#define NTSYNC_CORRUPT 9       /* the tables have another length or break a rule of docs/LAYOUT.md */
+#define NTSYNC_BUSY 10         /* a queued wait names the object */
+#define NTSYNC_QUEUED 11       /* the wait has a ticket and will be woken */
+#define NTSYNC_LIST_SHORT 12   /* the wake list or the snapshot's buffer is too short */
+
+#ifdef __cplusplus
+extern "C" {
+#endif
+
+/* ---- what the calls return, by value: the answer first, then the numbers with it, 0 where no rule gives one */
+
+typedef struct { uint32_t answer, handle; } ntsync_created;
+typedef struct { uint32_t answer, count, max; } ntsync_sem_state;
+typedef struct { uint32_t answer, owner, count; } ntsync_mutex_state;
+typedef struct { uint32_t answer, signaled, manual; } ntsync_event_state;
+/* woken: how many records now stand at the front of the wake list. */
+typedef struct { uint32_t answer, previous, woken; } ntsync_changed;
+/* index if served, ticket if queued. */
+typedef struct { uint32_t answer, index; uint64_t ticket; } ntsync_waited;
+/* length: bytes at the front of the buffer. */
+typedef struct { uint32_t answer, length; } ntsync_written;
+
+/* ---- version and making */
+
+/* The NTSYNC_VERSION that the archive was built for. If it is not this header's, make no other call. */
+uint32_t ntsync_version(void);
+
+/* Makes empty tables: no object, no wait, next ticket 1. What the cells held before does not matter; tickets and handles
+ * from before mean nothing afterwards. NTSYNC_DONE, or NTSYNC_CORRUPT with nothing altered if cells is not NTSYNC_CELLS. */
+uint32_t ntsync_init(uint64_t *tables, size_t cells);
+
+/* ---- objects: creating takes the lowest empty place, so the handle of a closed object is given again */
+
+/* A semaphore. NTSYNC_EINVAL if count exceeds max; NTSYNC_NO_ROOM if all places are in use. */
+ntsync_created ntsync_create_sem(uint64_t *tables, size_t cells, uint32_t count, uint32_t max);
+
+/* A mutex, held count times by owner, or unowned if both are 0. Owner numbers are the host's own, 0 is nobody.
+ * NTSYNC_EINVAL if exactly one of the two is 0; NTSYNC_NO_ROOM if all places are in use. */
+ntsync_created ntsync_create_mutex(uint64_t *tables, size_t cells, uint32_t owner, uint32_t count);
+
+/* An event; each flag is on if it is not 0. A manual event stays signaled when a wait acquires it, another is cleared.
+ * NTSYNC_NO_ROOM if all places are in use. */
+ntsync_created ntsync_create_event(uint64_t *tables, size_t cells, uint32_t signaled, uint32_t manual);
+
+/* Empties the object's place, whatever its kind and state. NTSYNC_EINVAL for no object; NTSYNC_BUSY while a queued wait
+ * lists it or has it as its alert: cancel or wake that wait first. */
+uint32_t ntsync_close(uint64_t *tables, size_t cells, uint32_t handle);
+
+/* Reading alters nothing. NTSYNC_EINVAL if the handle is no semaphore. */
+ntsync_sem_state ntsync_read_sem(const uint64_t *tables, size_t cells, uint32_t handle);
+
+/* NTSYNC_EOWNERDEAD, with zeros, if the mutex is abandoned; it stays so. NTSYNC_EINVAL if the handle is no mutex. */
+ntsync_mutex_state ntsync_read_mutex(const uint64_t *tables, size_t cells, uint32_t handle);
+
+/* NTSYNC_EINVAL if the handle is no event. */
+ntsync_event_state ntsync_read_event(const uint64_t *tables, size_t cells, uint32_t handle);
+
+/* ---- signaling
+ *
+ * These change one object and then try each queued wait that names it, lowest ticket first. A wait that can be served
+ * acquires its objects, leaves the queue and gets a record in the wake list: ticket, answer (NTSYNC_DONE or
+ * NTSYNC_EOWNERDEAD) and index, as a wait that is served at once would have returned them. The host owes each recorded
+ * wait's task its answer: it already holds what it acquired. Records fill the list from its front, `woken` of them; cells
+ * behind them are not altered. NTSYNC_LIST_SHORT if wake_cells is under NTSYNC_WAKE_CELLS. */
+
+/* Adds to a semaphore's count; adding 0 is allowed. previous: the count before.
+ * NTSYNC_EINVAL if the handle is no semaphore; NTSYNC_EOVERFLOW if count and add together exceed the maximum. */
+ntsync_changed ntsync_post(uint64_t *tables, size_t cells, uint64_t *wake, size_t wake_cells,
+                           uint32_t handle, uint32_t add);
+
+/* Takes one from a mutex's count; at 0 it is unowned. previous: the count before.
+ * NTSYNC_EINVAL if owner is 0 or the handle is no mutex; NTSYNC_EPERM if owner does not hold it. */
+ntsync_changed ntsync_unlock(uint64_t *tables, size_t cells, uint64_t *wake, size_t wake_cells,
+                             uint32_t handle, uint32_t owner);
+
+/* For an owner that died: the mutex becomes unowned and abandoned, and who acquires it next gets NTSYNC_EOWNERDEAD.
+ * previous is 0. The host owes this call for every mutex that the dead owner held; refusals as for ntsync_unlock. */
+ntsync_changed ntsync_kill_owner(uint64_t *tables, size_t cells, uint64_t *wake, size_t wake_cells,
+                                 uint32_t handle, uint32_t owner);
+
+/* Signals an event. previous: whether it was signaled, 0 or 1. NTSYNC_EINVAL if the handle is no event. */
+ntsync_changed ntsync_set(uint64_t *tables, size_t cells, uint64_t *wake, size_t wake_cells, uint32_t handle);
+
+/* Clears an event; nothing is woken, woken is 0. previous and refusals as for ntsync_set, but there is no wake list. */
+ntsync_changed ntsync_reset(uint64_t *tables, size_t cells, uint32_t handle);
+
+/* Signals an event, wakes, and clears it whether or not a wait was served. previous and refusals as for ntsync_set. */
+ntsync_changed ntsync_pulse(uint64_t *tables, size_t cells, uint64_t *wake, size_t wake_cells, uint32_t handle);
+
+/* ---- waiting
+ *
+ * list has 1 to NTSYNC_MAX_LISTED handles, owner is not 0, alert is 0 or an event's handle, flags is NTSYNC_MONOTONIC or
+ * NTSYNC_REALTIME, pad is 0; time is the present time of that clock, timeout a time of it too (not a span) or NTSYNC_NEVER.
+ * In this order:
+ *   NTSYNC_EINVAL         an argument is none of these, or a listed handle is no object;
+ *   NTSYNC_DONE           served, the objects are acquired; index: see each call. If the list could not serve but the alert
+ *                         is signaled, the alert is acquired and index is n;
+ *   NTSYNC_EOWNERDEAD     the same, and an acquired mutex had been abandoned: what it guards may be half written;
+ *   NTSYNC_ETIMEDOUT      not served, and timeout is not later than time;
+ *   NTSYNC_NO_ROOM        it would have to queue, and all wait places are in use;
+ *   NTSYNC_TICKETS_SPENT  it would have to queue, and there is no ticket left;
+ *   NTSYNC_QUEUED         it is queued under `ticket`. The host keeps the ticket with the task, and calls ntsync_expire
+ *                         when time passes: the library has no clock. Until the wait is woken, its objects can't be closed.
+ * Acquiring takes one from a semaphore, adds one to a mutex's count for owner, clears an event that is not manual. A
+ * semaphore can be acquired when its count is not 0; a mutex when it is unowned or its owner asks again, and its count is
+ * below 2^32-1; an event when it is signaled. */
+
+/* Acquires the first listed object that can be; index is its place in the list. A handle may stand there twice. */
+ntsync_waited ntsync_wait_any(uint64_t *tables, size_t cells, const uint32_t *list, size_t n, uint32_t owner,
+                              uint32_t alert, uint32_t flags, uint32_t pad, uint64_t timeout, uint64_t time);
+
+/* Acquires all listed objects at once, or none; index is 0. NTSYNC_EINVAL too if a handle occurs twice, alert included. */
+ntsync_waited ntsync_wait_all(uint64_t *tables, size_t cells, const uint32_t *list, size_t n, uint32_t owner,
+                              uint32_t alert, uint32_t flags, uint32_t pad, uint64_t timeout, uint64_t time);
+
+/* Ends every queued wait on that clock whose timeout is not later than time, NTSYNC_NEVER excepted: each leaves the queue
+ * and gets a record with NTSYNC_ETIMEDOUT and index 0, lowest ticket first. Objects are not altered, previous is 0. No time
+ * is kept, so a clock may be set back. NTSYNC_LIST_SHORT as for signaling; NTSYNC_EINVAL for a clock other than
+ * NTSYNC_MONOTONIC and NTSYNC_REALTIME. */
+ntsync_changed ntsync_expire(uint64_t *tables, size_t cells, uint64_t *wake, size_t wake_cells,
+                             uint32_t clock, uint64_t time);
+
+/* Takes one wait out of the queue; objects are not altered. NTSYNC_EINTR if it was there, which is also the answer that
+ * the host owes the waiting task (no record is written); NTSYNC_EINVAL if no queued wait has that ticket. */
+uint32_t ntsync_cancel(uint64_t *tables, size_t cells, uint64_t ticket);
+
+/* ---- snapshot */
+
+/* Writes the tables as text, lines `key=value`, to the front of buffer: length bytes, no null byte behind them, and the
+ * rest is not altered. The tables are only read. NTSYNC_LIST_SHORT if bytes is under NTSYNC_SNAPSHOT_BYTES. */
+ntsync_written ntsync_snapshot(const uint64_t *tables, size_t cells, uint8_t *buffer, size_t bytes);
+
+/* ---- the waits for hosts whose empty list is a null pointer: with n 0 the list is never passed on */
+
+static inline ntsync_waited ntsync_wait_any_list(uint64_t *tables, size_t cells, const uint32_t *list, size_t n,
+                                                 uint32_t owner, uint32_t alert, uint32_t flags, uint32_t pad,
+                                                 uint64_t timeout, uint64_t time)
+{
+    static const uint32_t none = 0;
+    return ntsync_wait_any(tables, cells, n == 0 ? &none : list, n, owner, alert, flags, pad, timeout, time);
+}
+
+static inline ntsync_waited ntsync_wait_all_list(uint64_t *tables, size_t cells, const uint32_t *list, size_t n,
+                                                 uint32_t owner, uint32_t alert, uint32_t flags, uint32_t pad,
+                                                 uint64_t timeout, uint64_t time)
+{
+    static const uint32_t none = 0;
+    return ntsync_wait_all(tables, cells, n == 0 ? &none : list, n, owner, alert, flags, pad, timeout, time);
+}
+
+#ifdef __cplusplus
+}
+#endif
+
+#endif
