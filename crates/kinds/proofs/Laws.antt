@@ -6,6 +6,7 @@ use native.Mathlib.Omega.{arith}
 use borrow.Author.Tests.{lt-ltb, le-ltb, eq-eqb, ne-eqb}
 use lib.Dec.{eqb, ltb, leb}
 use Rattle.model.specs.Basics.{bit}
+use Rattle.model.specs.Sizes.{mutexCeiling}
 use Rattle.model.proofs.Logic.{byBool, clash, same-tests}
 use Rattle.cells.specs.Objects.{Fields, fields, Changed, changed, acquiredFields, postFields, ifHeld, unlockFields, killFields}
 
@@ -56,3 +57,8 @@ pub not-more : (a b : ℕ) → leb a b ≡ not (ltb b a)
 not-more a b = byBool (ltb b a)
     (λ y. rw y (byBool (leb a b) (λ z. absurd (let p = borrow.Author.Tests.ltb-true b a y in let q = borrow.Author.Tests.leb-true a b z in let w : ⊥ = omega arith in w)) (λ f. f)))
     (λ n. rw n (borrow.Author.Tests.le-leb a b (borrow.Author.Tests.ltb-false b a n)))
+
+-- a mutex gains one and takes the owner
+pub acquired-mutex : (asking : ℕ) (x : Fields) → x .kind ≡ 2 → x .count < mutexCeiling → fields 2 (x .count + 1) asking 0 ≡ acquiredFields asking x
+unfolding acquiredFields
+acquired-mutex asking x k l = rw (k, lt-ltb (x .count) mutexCeiling l)

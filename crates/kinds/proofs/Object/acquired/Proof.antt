@@ -1,4 +1,5 @@
-use Rattle.kinds.proofs.Laws.{acquired-none}
+use Rattle.kinds.proofs.Laws.{acquired-none, acquired-mutex}
+use Rattle.kinds.specs.Values.{cellsOf}
 use Rattle.cells.specs.Objects.{acquiredFields}
 use Rattle.cells.proofs.Tests.{tests}
 use native.Mathlib.Omega.{arith}
@@ -27,8 +28,7 @@ add-t10 c = search needs
 
 -- src/lib.rt:228:17
 returns-3 : tie.Need-returns-3
-unfolding acquiredFields
-returns-3 c = search tests
+returns-3 c = let a = c .before .before .before .args in acquired-mutex (a .asking) (cellsOf (a .self)) (c .before .if3 .taken) (c .if4 .taken)
 
 -- src/lib.rt:235:13
 returns-4 : tie.Need-returns-4
