@@ -115,11 +115,11 @@ fn act(
 }
 
 // The list's numbers, wider.
-fn widen(list: &[u32]) -> [u64; 64]
+fn widen(list: &[u32]) -> [u64; tables::MAX_LISTED]
     requires { ⌜ length (now list) ≤ maxListed ⌝ }
     ensures { λ r. ⌜ (length r ≡ maxListed) × (take (length (now (list .entry))) r ≡ now (list .entry)) ⌝ }
 {
-    let mut wide: [u64; 64] = [0; 64];
+    let mut wide: [u64; tables::MAX_LISTED] = [0; tables::MAX_LISTED];
     let mut i: usize = 0;
     while i < list.len() {
         wide[i] = list[i] as u64;
