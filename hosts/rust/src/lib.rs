@@ -29,6 +29,11 @@ mod types;
 #[cfg(test)]
 mod tests;
 
+/// The README's example, run as a documentation test.
+#[cfg(doctest)]
+#[doc = include_str!("../../../README.md")]
+struct Readme;
+
 pub use ffi::{CELLS, MAX_LISTED, NEVER, OBJECT_PLACES, VERSION, WAIT_PLACES};
 pub use tables::Tables;
 pub use types::{Answer, Changed, Clock, Event, Mutex, Semaphore, Wait, Waited, Woken};
