@@ -179,8 +179,9 @@ uint32_t ntsync_cancel(uint64_t *tables, size_t cells, uint64_t ticket);
 
 /* ---- snapshot */
 
-/* Writes the tables as text, lines `key=value`, to the front of buffer: length bytes, no null byte behind them, and the
- * rest is not altered. The tables are only read. NTSYNC_LIST_SHORT if bytes is under NTSYNC_SNAPSHOT_BYTES. */
+/* Writes the tables as text (docs/LAYOUT.md, "A snapshot") to the front of buffer: length bytes, no null byte behind
+ * them, and the rest is not altered. The tables are only read. NTSYNC_LIST_SHORT if bytes is under
+ * NTSYNC_SNAPSHOT_BYTES. */
 ntsync_written ntsync_snapshot(const uint64_t *tables, size_t cells, uint8_t *buffer, size_t bytes);
 
 /* ---- the waits for hosts whose empty list is a null pointer: with n 0 the list is never passed on */
