@@ -1,0 +1,68 @@
+//! Each call of the library beside a plain Rust version of it, on the same tables with the same arguments
+//! (docs/BENCH.md). bench/run runs it twice: `bench count` under callgrind, then `bench report FILE`, with the file
+//! that callgrind wrote.
+
+/// The library's functions, as the Rust host declares them.
+#[allow(dead_code)]
+#[path = "../../hosts/rust/src/ffi.rs"]
+mod ffi;
+mod measure;
+mod plain;
+mod report;
+mod results;
+mod scenarios;
+mod sides;
+mod tables;
+
+use measure::Measured;
+use scenarios::{Scenario, Start};
+use sides::{perform, Call, Lent, LIBRARY, PLAIN};
+
+/// Fails if the sides differ in the outcome or in any cell lent, or if the scenario is not what it says.
+fn compare(scenario: &Scenario) {
+    let Scenario { start, call, what, expected } = scenario;
+    let name = format!("{} ({}, {what})", call.name(), start.name);
+    let [library, plain] = [&LIBRARY, &PLAIN].map(|side| {
+        let mut lent = Lent::new(&start.tables, call);
+        assert_eq!(perform(side, &Call::Valid, &mut lent)[0], 1, "{name}: valid tables");
+        (perform(side, call, &mut lent), lent)
+    });
+    assert_eq!(library.0, *expected, "{name}: the library's outcome");
+    assert_eq!(plain.0, *expected, "{name}: the plain version's outcome");
+    assert!(library.1 == plain.1, "{name}: the cells left");
+}
+
+/// What is counted, in the order in which report.rs takes the counts.
+fn plan<'a>(fillings: &'a [Start], scenarios: &'a [Scenario]) -> Vec<Measured<'a>> {
+    let mut plan = Vec::new();
+    for Start { tables, .. } in fillings {
+        for (side, call) in [(&LIBRARY, &Call::ReadAll), (&LIBRARY, &Call::Valid), (&PLAIN, &Call::Valid)] {
+            plan.push(Measured { side, call, tables });
+        }
+    }
+    for Scenario { start, call, .. } in scenarios {
+        for side in [&LIBRARY, &PLAIN] {
+            plan.push(Measured { side, call, tables: &start.tables });
+        }
+    }
+    plan
+}
+
+fn main() {
+    let fillings = scenarios::fillings();
+    let scenarios = scenarios::scenarios();
+    scenarios.iter().for_each(compare);
+    let plan = plan(&fillings, &scenarios);
+    let arguments: Vec<String> = std::env::args().skip(1).collect();
+    match arguments.iter().map(String::as_str).collect::<Vec<_>>()[..] {
+        ["count"] => measure::count_all(&plan),
+        ["report", file] => {
+            let counts = measure::read_counts(file);
+            assert_eq!(counts.len(), plan.len(), "a count for each call");
+            let (checks, calls) = counts.split_at(3 * fillings.len());
+            report::print_checks(&fillings, checks);
+            report::print_scenarios(&scenarios, calls);
+        }
+        _ => panic!("bench count, or bench report FILE"),
+    }
+}
