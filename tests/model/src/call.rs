@@ -36,6 +36,38 @@ impl Call {
             _ => None,
         }
     }
+
+    /// The list of a wait; empty for other calls.
+    pub fn listed(&self) -> &[u32] {
+        match self {
+            Call::Wait { list, .. } => list,
+            _ => &[],
+        }
+    }
+
+    /// The one handle that a call other than a wait takes.
+    pub fn handle(&self) -> Option<u32> {
+        match self {
+            Call::Wait { .. } => None,
+            other => other.clone().handle_mut().copied(),
+        }
+    }
+
+    pub fn handle_mut(&mut self) -> Option<&mut u32> {
+        match self {
+            Call::Close { handle }
+            | Call::ReadSem { handle }
+            | Call::ReadMutex { handle }
+            | Call::ReadEvent { handle }
+            | Call::Post { handle, .. }
+            | Call::Unlock { handle, .. }
+            | Call::Kill { handle, .. }
+            | Call::Set { handle, .. }
+            | Call::Reset { handle }
+            | Call::Pulse { handle, .. } => Some(handle),
+            _ => None,
+        }
+    }
 }
 
 /// A woken or ended wait.
@@ -53,7 +85,7 @@ pub struct Outcome {
     pub answer: u32,
     pub numbers: [u64; 2],
     pub reports: Vec<Report>,
-    pub text: String,
+    pub text: Vec<u8>,
 }
 
 impl Outcome {

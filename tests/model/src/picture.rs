@@ -1,59 +1,74 @@
 //! The picture: lines key=value, objects by handle, waits by ticket.
+//! Written by hand, digits too, because the runner asks for it after every call.
 
-use crate::{Clock, Mode, Object, State, Wait};
-use std::fmt::Write;
+use crate::{Clock, Mode, Object, State, Wait, PICTURE_BYTES};
 
-pub fn picture(state: &State) -> String {
-    let mut text = String::new();
-    line(&mut text, "next", state.next);
-    line(&mut text, "objects", state.objects.iter().flatten().count());
+pub fn picture(state: &State) -> Vec<u8> {
+    let mut text = Vec::with_capacity(PICTURE_BYTES);
+    number(&mut text, "next", state.next);
+    number(&mut text, "objects", state.objects.iter().flatten().count() as u64);
     for (place, object) in state.objects.iter().enumerate() {
         if let Some(object) = object {
-            line(&mut text, "handle", place + 1);
+            number(&mut text, "handle", place as u64 + 1);
             write_object(&mut text, object);
         }
     }
-    line(&mut text, "waits", state.queued().count());
+    number(&mut text, "waits", state.queued().count() as u64);
     for place in state.places_by_ticket() {
         write_wait(&mut text, state.waits[place].as_ref().unwrap());
     }
     text
 }
 
-fn line(text: &mut String, key: &str, value: impl std::fmt::Display) {
-    writeln!(text, "{key}={value}").unwrap();
+fn line(text: &mut Vec<u8>, key: &str, value: &[u8]) {
+    text.extend_from_slice(key.as_bytes());
+    text.push(b'=');
+    text.extend_from_slice(value);
+    text.push(b'\n');
 }
 
-fn write_object(text: &mut String, object: &Object) {
+/// Decimal, no leading zeros.
+fn number(text: &mut Vec<u8>, key: &str, value: impl Into<u64>) {
+    let mut digits = [0; 20];
+    let (mut first, mut left) = (digits.len() - 1, value.into());
+    while left >= 10 {
+        digits[first] = b'0' + (left % 10) as u8;
+        (first, left) = (first - 1, left / 10);
+    }
+    digits[first] = b'0' + left as u8;
+    line(text, key, &digits[first..]);
+}
+
+fn write_object(text: &mut Vec<u8>, object: &Object) {
     match *object {
         Object::Semaphore { count, max } => {
-            line(text, "kind", "sem");
-            line(text, "count", count);
-            line(text, "max", max);
+            line(text, "kind", b"sem");
+            number(text, "count", count);
+            number(text, "max", max);
         }
         Object::Mutex { owner, count, abandoned } => {
-            line(text, "kind", "mutex");
-            line(text, "owner", owner);
-            line(text, "count", count);
-            line(text, "abandoned", u8::from(abandoned));
+            line(text, "kind", b"mutex");
+            number(text, "owner", owner);
+            number(text, "count", count);
+            number(text, "abandoned", abandoned);
         }
         Object::Event { signaled, manual } => {
-            line(text, "kind", "event");
-            line(text, "signaled", u8::from(signaled));
-            line(text, "manual", u8::from(manual));
+            line(text, "kind", b"event");
+            number(text, "signaled", signaled);
+            number(text, "manual", manual);
         }
     }
 }
 
-fn write_wait(text: &mut String, wait: &Wait) {
-    line(text, "wait", wait.ticket);
-    line(text, "mode", if wait.mode == Mode::All { "all" } else { "any" });
-    line(text, "owner", wait.owner);
-    line(text, "clock", if wait.clock == Clock::RealTime { "real" } else { "mono" });
-    line(text, "timeout", wait.timeout);
-    line(text, "alert", wait.alert);
-    line(text, "n", wait.list.len());
-    for handle in &wait.list {
-        line(text, "obj", handle);
+fn write_wait(text: &mut Vec<u8>, wait: &Wait) {
+    number(text, "wait", wait.ticket);
+    line(text, "mode", if wait.mode == Mode::All { b"all" } else { b"any" });
+    number(text, "owner", wait.owner);
+    line(text, "clock", if wait.clock == Clock::RealTime { b"real" } else { b"mono" });
+    number(text, "timeout", wait.timeout);
+    number(text, "alert", wait.alert);
+    number(text, "n", wait.list.len() as u64);
+    for &handle in &wait.list {
+        number(text, "obj", handle);
     }
 }

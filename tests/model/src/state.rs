@@ -73,6 +73,12 @@ impl State {
         State { next: 1, objects: [None; OBJECTS], waits: [const { None }; WAITS] }
     }
 
+    /// What the handle names.
+    pub fn object(&self, handle: u32) -> Option<Object> {
+        let place = (handle as usize).checked_sub(1)?;
+        self.objects.get(place).copied().flatten()
+    }
+
     pub fn queued(&self) -> impl Iterator<Item = &Wait> {
         self.waits.iter().flatten()
     }

@@ -187,28 +187,9 @@ impl Model {
             Call::Event { signaled, manual } => {
                 self.create(Object::Event { signaled: signaled != 0, manual: manual != 0 })
             }
-            Call::Close { handle } => {
-                let place = self.place(handle).expect("an occupied handle");
-                self.state.objects[place] = None;
-                Outcome::answer(DONE)
-            }
-            Call::ReadSem { handle } => {
-                let (count, max) = self.semaphore(handle).expect("a semaphore");
-                Outcome::numbers(DONE, count.into(), max.into())
-            }
-            Call::ReadMutex { handle } => match self.mutex(handle).expect("a mutex") {
-                (_, _, true) => Outcome::answer(EOWNERDEAD),
-                (owner, count, false) => Outcome::numbers(DONE, owner.into(), count.into()),
-            },
-            Call::ReadEvent { handle } => {
-                let (signaled, manual) = self.event(handle).expect("an event");
-                Outcome::numbers(DONE, signaled.into(), manual.into())
-            }
-            Call::Post { handle, add, .. } => {
-                let (count, max) = self.semaphore(handle).expect("a semaphore");
-                self.put(handle, Object::Semaphore { count: count + add, max });
-                Outcome::numbers(DONE, count.into(), 0)
-            }
+            Call::Close { handle } => self.close(handle),
+            Call::ReadSem { handle } | Call::ReadMutex { handle } | Call::ReadEvent { handle } => self.read(handle),
+            Call::Post { handle, add, .. } => self.post(handle, add),
             Call::Unlock { handle, .. } => self.unlock(handle),
             Call::Kill { handle, .. } => {
                 self.put(handle, Object::Mutex { owner: 0, count: 0, abandoned: true });
@@ -238,6 +219,27 @@ impl Model {
         let place = self.state.objects.iter().position(Option::is_none).expect("an empty place");
         self.state.objects[place] = Some(object);
         Outcome::numbers(DONE, place as u64 + 1, 0)
+    }
+
+    fn close(&mut self, handle: u32) -> Outcome {
+        let place = self.place(handle).expect("an occupied handle");
+        self.state.objects[place] = None;
+        Outcome::answer(DONE)
+    }
+
+    fn read(&self, handle: u32) -> Outcome {
+        match self.object(handle).expect("an object of the kind read") {
+            Object::Semaphore { count, max } => Outcome::numbers(DONE, count.into(), max.into()),
+            Object::Mutex { abandoned: true, .. } => Outcome::answer(EOWNERDEAD),
+            Object::Mutex { owner, count, .. } => Outcome::numbers(DONE, owner.into(), count.into()),
+            Object::Event { signaled, manual } => Outcome::numbers(DONE, signaled.into(), manual.into()),
+        }
+    }
+
+    fn post(&mut self, handle: u32, add: u32) -> Outcome {
+        let (count, max) = self.semaphore(handle).expect("a semaphore");
+        self.put(handle, Object::Semaphore { count: count + add, max });
+        Outcome::numbers(DONE, count.into(), 0)
     }
 
     fn unlock(&mut self, handle: u32) -> Outcome {

@@ -1,10 +1,10 @@
 //! What the random histories met. Every line that is required must have occurred.
 
-use second_model::{Call, Mode, Object, Outcome, State, LIST, OBJECTS, WAITS, WAKE_CELLS};
+use second_model::{Call, Mode, Object, Outcome, Report, State, LIST, OBJECTS, WAITS, WAKE_CELLS};
 use std::collections::BTreeMap;
 
-/// Calls and the answers that histories must have seen (8 and 9 need written tables: directed, damaged).
-const ANSWERS: [(&str, &[u32]); 18] = [
+/// Every call and every answer that it can have on sound tables: each must have been seen, and no other.
+pub const ANSWERS: [(&str, &[u32]); 18] = [
     ("sem", &[0, 1, 7]),
     ("mutex", &[0, 1, 7]),
     ("event", &[0, 7]),
@@ -18,14 +18,14 @@ const ANSWERS: [(&str, &[u32]); 18] = [
     ("set", &[0, 1, 12]),
     ("reset", &[0, 1]),
     ("pulse", &[0, 1, 12]),
-    ("any", &[0, 1, 4, 5, 7, 11]),
-    ("all", &[0, 1, 4, 5, 7, 11]),
+    ("any", &[0, 1, 4, 5, 7, 8, 11]),
+    ("all", &[0, 1, 4, 5, 7, 8, 11]),
     ("expire", &[0, 1, 12]),
     ("cancel", &[1, 6]),
     ("picture", &[0, 12]),
 ];
 
-const SITUATIONS: [&str; 51] = [
+const SITUATIONS: [&str; 69] = [
     "queue filled to 32",
     "served with the queue full",
     "timed out with the queue full",
@@ -77,6 +77,24 @@ const SITUATIONS: [&str; 51] = [
     "short wake list refused",
     "long wake list with records",
     "freed wait place used again",
+    "last ticket given",
+    "ends by a time beyond 2^32",
+    "ends by a time from 2^63 on and spares a later one",
+    "wakes tickets on both sides of 2^63",
+    "list taken though the alert is signaled",
+    "alert taken though an abandoned mutex is listed",
+    "holder not served at the ceiling",
+    "unlock wakes several",
+    "kill wakes with 4 and then with 0",
+    "post wakes several",
+    "woken with 64 listed",
+    "ends out of place order",
+    "held mutex closed",
+    "abandoned mutex closed",
+    "empty place refused",
+    "wrong kind refused",
+    "mutex held by another",
+    "abandoned mutex has no holder",
 ];
 
 #[derive(Default)]
@@ -85,7 +103,6 @@ pub struct Coverage {
     situations: BTreeMap<&'static str, u64>,
     pub calls: u64,
     pub histories: u64,
-    pub pictures: u64,
     last_time: [u64; 2],
 }
 
@@ -114,47 +131,26 @@ pub fn call_name(call: &Call) -> &'static str {
 
 /// What must be known of the state before a call.
 pub struct Before {
-    queued: usize,
     next: u64,
-    /// Of the handle that the call names.
+    /// Of the handle that the call takes.
     object: Option<Object>,
     abandoned_listed: usize,
-    places: Vec<u64>,
+    alert_signaled: bool,
+    /// Ticket and number of handles of each queued wait, in the order of the places.
+    queued: Vec<(u64, usize)>,
 }
 
 impl Before {
     pub fn new(state: &State, call: &Call) -> Before {
-        let list: &[u32] = if let Call::Wait { list, .. } = call { list } else { &[] };
-        let abandoned = |&&handle: &&u32| matches!(object(state, handle), Some(Object::Mutex { abandoned: true, .. }));
-        let wakes = call.wake_cells().is_some();
+        let abandoned = |&&handle: &&u32| matches!(state.object(handle), Some(Object::Mutex { abandoned: true, .. }));
+        let alert = if let Call::Wait { alert, .. } = *call { state.object(alert) } else { None };
         Before {
-            queued: state.queued().count(),
             next: state.next,
-            object: object(state, named(call)),
-            abandoned_listed: list.iter().filter(abandoned).count(),
-            places: if wakes { state.queued().map(|wait| wait.ticket).collect() } else { Vec::new() },
+            object: call.handle().and_then(|handle| state.object(handle)),
+            abandoned_listed: call.listed().iter().filter(abandoned).count(),
+            alert_signaled: matches!(alert, Some(Object::Event { signaled: true, .. })),
+            queued: state.queued().map(|wait| (wait.ticket, wait.list.len())).collect(),
         }
-    }
-}
-
-fn object(state: &State, handle: u32) -> Option<Object> {
-    (1..=OBJECTS as u32).contains(&handle).then(|| state.objects[handle as usize - 1]).flatten()
-}
-
-/// The handle that a call other than a wait names; 0 if none.
-fn named(call: &Call) -> u32 {
-    match *call {
-        Call::Close { handle }
-        | Call::ReadSem { handle }
-        | Call::ReadMutex { handle }
-        | Call::ReadEvent { handle }
-        | Call::Post { handle, .. }
-        | Call::Unlock { handle, .. }
-        | Call::Kill { handle, .. }
-        | Call::Set { handle, .. }
-        | Call::Reset { handle }
-        | Call::Pulse { handle, .. } => handle,
-        _ => 0,
     }
 }
 
@@ -173,7 +169,10 @@ impl Coverage {
         self.calls += 1;
         *self.answers.entry((call_name(call), outcome.answer)).or_default() += 1;
         match call {
-            Call::Wait { .. } => self.observe_wait(before, call, outcome, after),
+            Call::Wait { .. } => {
+                self.observe_arguments(call, outcome, after);
+                self.observe_wait(before, call, outcome, after);
+            }
             Call::Expire { clock, time, .. } => self.observe_expire(*clock, *time, outcome, after),
             _ => self.observe_object(before, call, outcome, after),
         }
@@ -183,84 +182,128 @@ impl Coverage {
     }
 
     fn observe_object(&mut self, before: &Before, call: &Call, outcome: &Outcome, after: &State) {
-        let (done, handle) = (outcome.answer == 0, named(call));
-        let takes_handle = !matches!(call, Call::Sem { .. } | Call::Mutex { .. } | Call::Event { .. })
-            && !matches!(call, Call::Cancel { .. } | Call::Picture { .. });
-        self.met("handle 128 used", done && handle == 128);
-        self.met("handle 129 refused", handle == 129 && outcome.answer == 1);
-        self.met("handle 0 refused", takes_handle && handle == 0 && outcome.answer == 1);
+        let done = outcome.answer == 0;
+        let several = outcome.reports.len() > 1;
+        if let Some(handle) = call.handle() {
+            self.observe_handle(before, call, handle, outcome);
+        }
         match *call {
             Call::Sem { .. } | Call::Mutex { .. } | Call::Event { .. } => {
                 self.met("128th object created", done && outcome.numbers[0] == 128);
             }
-            Call::Post { add, .. } => {
-                let queued_on = add == 0 && done && after.queued().any(|wait| wait.names(handle));
-                self.met("post of 0", done && add == 0);
-                self.met("post of 0 with waits queued on it", queued_on);
-                let full = matches!(object(after, handle), Some(Object::Semaphore { count: u32::MAX, .. }));
-                self.met("semaphore reached 2^32-1", done && add > 0 && full);
-                let count = match before.object {
-                    Some(Object::Semaphore { count, .. }) => count,
-                    _ => 0,
-                };
-                self.met("post past 2^32-1", outcome.answer == 3 && count.checked_add(add).is_none());
+            Call::Post { handle, add, .. } => {
+                self.met("post wakes several", several);
+                self.observe_post(before, handle, add, outcome, after);
             }
             Call::Unlock { .. } => {
                 let (woken, previous) = (outcome.numbers[1] > 0, outcome.numbers[0]);
                 self.met("unlock from the ceiling wakes its owner", woken && previous == u32::MAX.into());
                 self.met("unlock above zero wakes", woken && previous > 1);
                 self.met("unlock to zero wakes", woken && previous == 1);
+                self.met("unlock wakes several", several);
             }
-            Call::Kill { .. } => self.met("mutex killed", done),
+            Call::Kill { .. } => {
+                let answers: Vec<u32> = outcome.reports.iter().map(|report| report.answer).collect();
+                self.met("mutex killed", done);
+                self.met("kill wakes with 4 and then with 0", answers.starts_with(&[4, 0]));
+            }
             Call::Pulse { .. } => {
-                self.met("pulse wakes several", outcome.numbers[1] > 1);
+                self.met("pulse wakes several", several);
                 self.met("pulse of a set event", done && outcome.numbers[0] == 1);
             }
             _ => {}
         }
     }
 
-    fn observe_wait(&mut self, before: &Before, call: &Call, outcome: &Outcome, after: &State) {
-        let Call::Wait { mode, ref list, owner, alert, flags, pad, timeout, time } = *call else { return };
+    fn observe_handle(&mut self, before: &Before, call: &Call, handle: u32, outcome: &Outcome) {
+        let (done, refused) = (outcome.answer == 0, outcome.answer == 1);
+        self.met("handle 128 used", done && handle == 128);
+        self.met("handle 129 refused", refused && handle == 129);
+        self.met("handle 0 refused", refused && handle == 0);
+        let place = (1..=OBJECTS as u32).contains(&handle);
+        self.met("empty place refused", refused && place && before.object.is_none());
+        let Some(object) = before.object else { return };
+        let mutex = matches!(object, Object::Mutex { .. });
+        match (call, object) {
+            (Call::Close { .. }, Object::Mutex { owner, abandoned, .. }) => {
+                self.met("held mutex closed", done && owner != 0);
+                self.met("abandoned mutex closed", done && abandoned);
+            }
+            (Call::Unlock { .. } | Call::Kill { .. }, Object::Mutex { owner, abandoned, .. }) => {
+                self.met("mutex held by another", outcome.answer == 2 && owner != 0);
+                self.met("abandoned mutex has no holder", outcome.answer == 2 && abandoned);
+            }
+            (Call::Unlock { .. } | Call::Kill { .. }, _) => self.met("wrong kind refused", refused && !mutex),
+            _ => self.met("wrong kind refused", refused),
+        }
+    }
+
+    fn observe_post(&mut self, before: &Before, handle: u32, add: u32, outcome: &Outcome, after: &State) {
+        let done = outcome.answer == 0;
+        self.met("post of 0", done && add == 0);
+        let queued_on = after.queued().any(|wait| wait.names(handle));
+        self.met("post of 0 with waits queued on it", done && add == 0 && queued_on);
+        let full = matches!(after.object(handle), Some(Object::Semaphore { count: u32::MAX, .. }));
+        self.met("semaphore reached 2^32-1", done && add > 0 && full);
+        let Some(Object::Semaphore { count, .. }) = before.object else { return };
+        self.met("post past 2^32-1", outcome.answer == 3 && count.checked_add(add).is_none());
+    }
+
+    /// What a wait is given.
+    fn observe_arguments(&mut self, call: &Call, outcome: &Outcome, after: &State) {
+        let Call::Wait { mode, ref list, owner, alert, flags, pad, .. } = *call else { return };
         let (refused, queued) = (outcome.answer == 1, outcome.answer == 11);
-        let served = matches!(outcome.answer, 0 | 4);
         let (any, all) = (mode == Mode::Any, mode == Mode::All);
-        let full = before.queued == WAITS;
         let n = list.len();
-        self.met("queue filled to 32", queued && before.queued == WAITS - 1);
-        self.met("served with the queue full", full && served);
-        self.met("timed out with the queue full", full && outcome.answer == 5);
         self.met("handle 129 refused", refused && list.contains(&129));
         self.met("handle 0 refused", refused && list.contains(&0));
         self.met("handle 128 in a queued list", queued && list.contains(&128));
-        self.met("abandoned mutex acquired by any", any && outcome.answer == 4);
-        self.met("abandoned mutex acquired by all", all && outcome.answer == 4);
-        self.met("two abandoned mutexes by one all", all && outcome.answer == 4 && before.abandoned_listed > 1);
-        let ceiling = |&handle: &u32| matches!(object(after, handle), Some(Object::Mutex { count: u32::MAX, .. }));
-        self.met("mutex reached the ceiling", all && served && outcome.numbers[0] == 0 && list.iter().any(ceiling));
         self.met("list of 0", refused && n == 0);
         self.met("list of 1 queued", queued && n == 1);
         self.met("list of 63 queued", queued && n == 63);
         self.met("list of 64 queued", queued && n == LIST);
-        self.met("list of 64 served by all", all && served && n == LIST && outcome.numbers[0] == 0);
         self.met("list of 65 refused", refused && n == LIST + 1);
-        self.met("alert index 64", served && outcome.numbers[0] == 64);
         self.met("repeated handle, any", any && !refused && has_repeat(list));
         self.met("repeated handle, all", all && refused && has_repeat(list));
         self.met("alert listed, any", any && !refused && list.contains(&alert));
-        self.met("alert listed, all", all && refused && list.contains(&alert));
-        let event = matches!(object(after, alert), Some(Object::Event { .. }));
+        self.met("alert listed, all", all && refused && alert != 0 && list.contains(&alert));
+        let event = matches!(after.object(alert), Some(Object::Event { .. }));
         self.met("alert not an event", refused && alert != 0 && !event);
-        self.met("served by alert", served && outcome.numbers[0] == n as u64);
         self.met("flags wrong", refused && flags > 1);
         self.met("pad wrong", refused && pad != 0);
         self.met("owner 0", refused && owner == 0);
+    }
+
+    /// What becomes of a wait.
+    fn observe_wait(&mut self, before: &Before, call: &Call, outcome: &Outcome, after: &State) {
+        let Call::Wait { mode, ref list, owner, flags, timeout, time, .. } = *call else { return };
+        let (answer, index) = (outcome.answer, outcome.numbers[0] as usize);
+        let (served, queued) = (matches!(answer, 0 | 4), answer == 11);
+        let (any, all) = (mode == Mode::Any, mode == Mode::All);
+        let (full, n) = (before.queued.len() == WAITS, list.len());
+        self.met("queue filled to 32", queued && before.queued.len() == WAITS - 1);
+        self.met("served with the queue full", full && served);
+        self.met("timed out with the queue full", full && answer == 5);
+        self.met("abandoned mutex acquired by any", any && answer == 4);
+        self.met("abandoned mutex acquired by all", all && answer == 4);
+        self.met("two abandoned mutexes by one all", all && answer == 4 && before.abandoned_listed > 1);
+        let by_alert = served && index == n;
+        self.met("served by alert", by_alert);
+        self.met("alert index 64", by_alert && n == 64);
+        self.met("alert taken though an abandoned mutex is listed", by_alert && all && before.abandoned_listed > 0);
+        self.met("list taken though the alert is signaled", served && !by_alert && before.alert_signaled);
+        self.met("list of 64 served by all", all && served && n == LIST && !by_alert);
+        let held_at_ceiling = Object::Mutex { owner, count: u32::MAX, abandoned: false };
+        let at_ceiling = |&handle: &u32| after.object(handle) == Some(held_at_ceiling);
+        self.met("mutex reached the ceiling", all && served && !by_alert && list.iter().any(at_ceiling));
+        self.met("holder not served at the ceiling", matches!(answer, 5 | 11) && list.iter().any(at_ceiling));
         self.met("real-time clock queued", queued && flags == 1);
-        self.met("timeout equals time", timeout == time && outcome.answer == 5);
+        self.met("timeout equals time", timeout == time && answer == 5);
         self.met("never at time 2^64-1", queued && time == u64::MAX && timeout == u64::MAX);
+        self.met("last ticket given", queued && outcome.numbers[1] == u64::MAX - 1);
         let place = after.waits.iter().position(|wait| wait.as_ref().is_some_and(|w| w.ticket == before.next));
-        self.met("freed wait place used again", queued && place.is_some_and(|place| (place as u64) < before.next - 1));
-        if !refused {
+        self.met("freed wait place used again", queued && place < Some(before.queued.len()));
+        if answer != 1 {
             self.observe_time(flags as usize, time);
         }
     }
@@ -274,6 +317,10 @@ impl Coverage {
         self.met("expire ends several", outcome.reports.len() > 1);
         let never = after.queued().any(|wait| wait.timeout == u64::MAX);
         self.met("expire at 2^64-1 spares never", outcome.answer == 0 && time == u64::MAX && never);
+        let ends = !outcome.reports.is_empty() && time < u64::MAX - 1;
+        let later = after.queued().any(|wait| wait.timeout > time && wait.timeout < u64::MAX - 1);
+        self.met("ends by a time beyond 2^32", ends && time > 1 << 32);
+        self.met("ends by a time from 2^63 on and spares a later one", ends && time >= 1 << 63 && later);
         if outcome.answer == 0 {
             self.observe_time(clock as usize, time);
         }
@@ -287,18 +334,30 @@ impl Coverage {
         self.met("long wake list with records", lent > WAKE_CELLS && !reports.is_empty());
         self.met("woken with 4", reports.iter().any(|report| report.answer == 4));
         self.met("wakes 8 or more", !ended && reports.len() >= 8);
-        let place = |ticket: u64| before.places.iter().position(|&t| t == ticket);
+        let place = |ticket: u64| before.queued.iter().position(|&(other, _)| other == ticket);
         let out_of_order = reports.windows(2).any(|two| place(two[0].ticket) > place(two[1].ticket));
-        self.met("wakes out of place order", out_of_order);
+        self.met("wakes out of place order", !ended && out_of_order);
+        self.met("ends out of place order", ended && out_of_order);
+        let beyond = |report: &Report| report.ticket >= 1 << 63;
+        self.met("wakes tickets on both sides of 2^63", reports.iter().any(beyond) && !reports.iter().all(beyond));
+        let listed = |report: &Report| place(report.ticket).map(|place| before.queued[place].1);
+        self.met(
+            "woken by alert",
+            !ended && reports.iter().any(|report| listed(report) == Some(report.index as usize)),
+        );
+        self.met("woken with 64 listed", !ended && reports.iter().any(|report| listed(report) == Some(LIST)));
     }
 
-    /// A woken wait whose index is its list's length.
-    pub fn observe_alert_wakes(&mut self, lengths: &[(u64, usize)], outcome: &Outcome) {
-        let by_alert = outcome
-            .reports
-            .iter()
-            .any(|report| report.answer == 0 && lengths.contains(&(report.ticket, report.index as usize)));
-        self.met("woken by alert", by_alert);
+    /// Takes in what another thread met.
+    pub fn add(&mut self, other: Coverage) {
+        self.calls += other.calls;
+        self.histories += other.histories;
+        for (answer, count) in other.answers {
+            *self.answers.entry(answer).or_default() += count;
+        }
+        for (situation, count) in other.situations {
+            *self.situations.entry(situation).or_default() += count;
+        }
     }
 
     /// One line a call: its answers and how often.
@@ -320,6 +379,10 @@ impl Coverage {
         let mut missing = Vec::new();
         for situation in self.situations.keys() {
             assert!(SITUATIONS.contains(situation), "not listed: {situation}");
+        }
+        for (name, answer) in self.answers.keys() {
+            let listed = ANSWERS.iter().any(|(call, answers)| call == name && answers.contains(answer));
+            assert!(listed, "not listed: {name} answering {answer}");
         }
         for (name, answers) in ANSWERS {
             let never = answers.iter().filter(|&&answer| !self.answers.contains_key(&(name, answer)));

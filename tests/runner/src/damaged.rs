@@ -1,23 +1,40 @@
-//! Damaged tables: answer 9 exactly if `layout::read` finds damage, and then nothing is altered;
+//! Damaged tables: answer 9 exactly if `layout::broken` finds a broken line, and then nothing is altered;
 //! else what the rules say of the state so read.
 
+use crate::calls::any;
+use crate::coverage::{call_name, ANSWERS};
 use crate::generate::{Mood, KINDS};
-use crate::layout;
+use crate::layout::{self, Place, LINES};
 use crate::library::{Library, CELLS};
-use crate::play::Bench;
+use crate::lines;
 use crate::random::Random;
-use crate::script::{call_text, outcome_text};
+use crate::script::{call_text, heard_text, outcome_text};
+use crate::states::states;
 use crate::Limits;
 use second_model::{answer, Call, Mode, Model, Object, Outcome, State, Waking};
 use second_model::{LIST, NEVER, OBJECTS, WAITS, WAKE_CELLS};
-use std::time::{Duration, Instant};
+use std::collections::BTreeMap;
+use std::thread;
 
 const SEED: u64 = 9;
-const SECONDS: u64 = 40;
-const LENGTHS: [usize; 7] = [0, 1, 2, 512, 513, CELLS - 1, CELLS + 1];
-const PLACES_WRITTEN: usize = 60_000;
-const CELLS_WRITTEN: usize = 20_000;
+const LENGTHS: [usize; 9] = [0, 1, 2, 512, 513, 2714, CELLS - 1, CELLS + 1, CELLS + 16];
+/// For each state.
+const PLACES_WRITTEN: usize = 10_000;
+const CELLS_WRITTEN: usize = 3_500;
 const GARBAGE: usize = 3_000;
+
+#[derive(Default)]
+struct Counts {
+    /// Calls by name, on damaged tables or not.
+    calls: BTreeMap<(&'static str, bool), u64>,
+    /// Calls on sound tables that the fresh search would answer otherwise: states that no history leads to.
+    beyond_histories: u64,
+    /// Damaged and sound ones.
+    tables: [u64; 2],
+    answers: [u64; 13],
+    /// Tables that break one line alone, by line.
+    only: BTreeMap<&'static str, u64>,
+}
 
 struct Damage {
     library: Library,
@@ -25,141 +42,107 @@ struct Damage {
     mood: Mood,
     base: State,
     sound_cells: Vec<u64>,
-    refused: u64,
-    answered: u64,
-    /// Answered calls that the fresh search would answer otherwise: states that no history leads to.
-    beyond_histories: u64,
-    /// Damaged and sound ones.
-    tables: [u64; 2],
-    answers: [u64; 13],
-    end: Instant,
+    counts: Counts,
 }
 
+/// One thread a state, and one for the tables that are no state's.
 pub fn run(limits: Limits) -> Result<String, String> {
-    let mut random = Random::new(limits.seed.unwrap_or(SEED));
-    let states = states(&mut random)?;
-    let seconds = limits.seconds.unwrap_or(SECONDS);
-    let mut damage = Damage {
-        library: Library::made(),
-        mood: Mood::filling(&mut random),
-        random,
-        base: State::new(),
-        sound_cells: Vec::new(),
-        refused: 0,
-        answered: 0,
-        beyond_histories: 0,
-        tables: [0, 0],
-        answers: [0; 13],
-        end: Instant::now() + Duration::from_secs(seconds),
-    };
-    let count = states.len();
-    for (name, cells) in states {
-        damage.begin(cells);
-        damage.every_cell().map_err(|what| format!("state {name}: {what}"))?;
-        damage.wrong_lengths().map_err(|what| format!("state {name}: {what}"))?;
-        damage.written_places(PLACES_WRITTEN / count).map_err(|what| format!("state {name}: {what}"))?;
-        damage.written_cells(CELLS_WRITTEN / count).map_err(|what| format!("state {name}: {what}"))?;
+    let seed = limits.seed.unwrap_or(SEED);
+    let states = states(&mut Random::new(seed))?;
+    let done: Vec<Result<Counts, String>> = thread::scope(|scope| {
+        let mut runs = vec![scope.spawn(move || Damage::new(seed).without_state())];
+        for (at, (name, cells)) in states.iter().enumerate() {
+            let damage = move || Damage::new(seed + 1 + at as u64).of_state(cells);
+            runs.push(scope.spawn(move || damage().map_err(|what| format!("state {name}: {what}"))));
+        }
+        runs.into_iter().map(|run| run.join().expect("a call without panic")).collect()
+    });
+    let mut counts = Counts::default();
+    for of_thread in done {
+        counts.add(of_thread?);
     }
-    damage.garbage()?;
-    damage.summary(count)
+    counts.summary(states.len())
 }
 
-// States, built by calls.
-
-fn states(random: &mut Random) -> Result<Vec<(&'static str, Vec<u64>)>, String> {
-    Ok(vec![
-        ("empty", Library::made().tables().to_vec()),
-        ("P1", built(&p1_calls())?),
-        ("full", built(&full_calls())?),
-        ("abandoned", built(&abandoned_calls())?),
-        ("random", random_state(random)?),
-        ("random, tickets spent", tickets_spent(random_state(random)?)),
-    ])
-}
-
-/// A call while a state is built: library and model must agree.
-fn build(bench: &mut Bench, call: &Call) -> Result<u32, String> {
-    let outcome = bench.step(call).map_err(|difference| format!("{}: {difference:?}", call_text(call)))?;
-    Ok(outcome.answer)
-}
-
-fn built(calls: &[Call]) -> Result<Vec<u64>, String> {
-    let mut bench = Bench::new(None);
-    for call in calls {
-        if answer::is_refusal(build(&mut bench, call)?) {
-            return Err(format!("refused: {}", call_text(call)));
+impl Counts {
+    fn add(&mut self, other: Counts) {
+        self.beyond_histories += other.beyond_histories;
+        (0..2).for_each(|at| self.tables[at] += other.tables[at]);
+        (0..13).for_each(|at| self.answers[at] += other.answers[at]);
+        for (call, count) in other.calls {
+            *self.calls.entry(call).or_default() += count;
+        }
+        for (line, count) in other.only {
+            *self.only.entry(line).or_default() += count;
         }
     }
-    Ok(bench.library.tables().to_vec())
-}
 
-fn wait(mode: Mode, alert: u32, timeout: u64, list: Vec<u32>) -> Call {
-    Call::Wait { mode, list, owner: 7, alert, flags: 0, pad: 0, timeout, time: 0 }
-}
-
-fn p1_calls() -> Vec<Call> {
-    let (sem, event) = (Call::Sem { count: 1, max: 2 }, Call::Event { signaled: 0, manual: 1 });
-    vec![sem, event, wait(Mode::All, 0, NEVER, vec![1, 2])]
-}
-
-/// Every place occupied; lists of 1 to 64, both modes, with and without alert.
-fn full_calls() -> Vec<Call> {
-    let mut calls: Vec<Call> = (0..OBJECTS as u32)
-        .map(|place| match place % 4 {
-            0 => Call::Sem { count: 0, max: place },
-            1 => Call::Mutex { owner: place, count: u32::MAX - place },
-            2 => Call::Event { signaled: 0, manual: 0 },
-            _ => Call::Event { signaled: 0, manual: 1 },
-        })
-        .collect();
-    for place in 0..WAITS as u32 {
-        let mode = if place % 2 == 0 { Mode::All } else { Mode::Any };
-        let length = [64, 63, 1, 2, 40, 64][place as usize % 6];
-        let alert = if place % 3 == 0 { 128 } else { 0 };
-        calls.push(wait(mode, alert, u64::from(place) + 1, (1..=length).collect()));
-    }
-    calls
-}
-
-/// Abandoned mutexes, closed places and holes in the queue.
-fn abandoned_calls() -> Vec<Call> {
-    let mut calls: Vec<Call> = (0..6).map(|_| Call::Mutex { owner: 3, count: 2 }).collect();
-    calls.extend((0..4).map(|_| Call::Event { signaled: 0, manual: 0 }));
-    calls.extend((0..6).map(|_| wait(Mode::All, 10, NEVER, vec![1, 2, 9])));
-    calls.extend((1..4).map(|handle| Call::Kill { handle, owner: 3, wake: WAKE_CELLS }));
-    calls.extend([1, 4].map(|ticket| Call::Cancel { ticket }));
-    calls.extend([4, 8].map(|handle| Call::Close { handle }));
-    calls
-}
-
-/// A random history's end, once it has ten waits and an abandoned mutex.
-fn random_state(random: &mut Random) -> Result<Vec<u64>, String> {
-    loop {
-        let mood = Mood::filling(random);
-        let mut bench = Bench::new(None);
-        for at in 0..mood.prelude + mood.calls {
-            let call = if at < mood.prelude { mood.create(random) } else { mood.call(random, &bench.model.state) };
-            build(&mut bench, &call)?;
-        }
-        let state = &bench.model.state;
-        let abandoned = |object: &Object| matches!(object, Object::Mutex { abandoned: true, .. });
-        let holes = state.objects.iter().any(Option::is_none) && state.waits.iter().any(Option::is_none);
-        if state.queued().count() >= 10 && holes && state.objects.iter().flatten().any(abandoned) {
-            return Ok(bench.library.tables().to_vec());
+    fn note(&mut self, broken: &[&'static str]) {
+        self.tables[usize::from(broken.is_empty())] += 1;
+        if let [line] = *broken {
+            *self.only.entry(line).or_default() += 1;
         }
     }
-}
 
-fn tickets_spent(mut cells: Vec<u64>) -> Vec<u64> {
-    cells[0] = u64::MAX;
-    cells
+    fn on(&self, damaged: bool) -> u64 {
+        self.calls.iter().filter(|((_, on), _)| *on == damaged).map(|(_, count)| count).sum()
+    }
+
+    /// What never occurred, though it must.
+    fn missing(&self) -> Vec<String> {
+        let calls = ANSWERS.iter().flat_map(|&(name, _)| [(name, true), (name, false)]);
+        let calls = calls.filter(|call| !self.calls.contains_key(call)).map(|call| format!("{call:?}"));
+        let lines = LINES.iter().filter(|line| !self.only.contains_key(*line)).map(|line| line.to_string());
+        let answers = (0..13).filter(|&answer| self.answers[answer] == 0).map(|answer| format!("answer {answer}"));
+        let beyond = (self.beyond_histories == 0).then(|| "a state beyond histories".into());
+        calls.chain(lines).chain(answers).chain(beyond).collect()
+    }
+
+    fn summary(&self, states: usize) -> Result<String, String> {
+        for (line, count) in &self.only {
+            println!("  tables broken by this alone: {line}: {count}");
+        }
+        for ((call, damaged), count) in &self.calls {
+            println!("  {call} on {} tables: {count}", if *damaged { "damaged" } else { "sound" });
+        }
+        let missing = self.missing();
+        if !missing.is_empty() {
+            return Err(format!("never occurred: {}", missing.join("; ")));
+        }
+        let [damaged, sound] = self.tables;
+        Ok(format!(
+            "{states} states, {damaged} tables damaged and {sound} sound, {} calls answered 9, \
+             {} otherwise ({} beyond histories)",
+            self.on(true),
+            self.on(false),
+            self.beyond_histories
+        ))
+    }
 }
 
 impl Damage {
-    fn begin(&mut self, cells: Vec<u64>) {
-        self.library.tables_mut().copy_from_slice(&cells);
-        self.base = layout::read(&cells).expect("sound tables");
-        self.sound_cells = cells;
+    fn new(seed: u64) -> Damage {
+        let mut random = Random::new(seed);
+        let library = Library::made();
+        let sound_cells = library.tables().to_vec();
+        let mood = Mood::filling(&mut random);
+        Damage { library, mood, random, base: State::new(), sound_cells, counts: Counts::default() }
+    }
+
+    fn of_state(mut self, cells: &[u64]) -> Result<Counts, String> {
+        self.base = layout::read(cells).ok_or("not sound")?;
+        self.sound_cells = cells.to_vec();
+        self.every_cell()?;
+        self.wrong_lengths()?;
+        self.written_places()?;
+        self.written_cells()?;
+        Ok(self.counts)
+    }
+
+    fn without_state(mut self) -> Result<Counts, String> {
+        self.each_line()?;
+        self.garbage()?;
+        Ok(self.counts)
     }
 
     // Ways to damage.
@@ -176,29 +159,45 @@ impl Damage {
         Ok(())
     }
 
-    /// Sound tables, lent with a wrong length.
+    /// Sound tables, lent with a wrong length, for every kind of call, both waits and making.
     fn wrong_lengths(&mut self) -> Result<(), String> {
         self.library.tables_mut().copy_from_slice(&self.sound_cells);
         for cells in LENGTHS {
-            for kind in 0..KINDS * 4 {
-                let call = self.mood.call_of(kind % KINDS, &mut self.random, &self.base);
+            for call in self.every_kind(&self.base.clone()) {
                 let outcome = self.library.play_cells(&call, cells)?;
-                self.refused += 1;
+                *self.counts.calls.entry((call_name(&call), true)).or_default() += 1;
                 if outcome != Outcome::answer(9) || self.library.tables() != &self.sound_cells[..] {
-                    return Err(format!("{cells} cells: {}: {outcome:?}", call_text(&call)));
+                    return Err(format!("{cells} cells: {}", heard_text(&call, &outcome)));
                 }
             }
-            let made = self.library.init(cells);
-            if made != 9 || self.library.tables() != &self.sound_cells[..] || !self.library.guards_hold() {
+            let made = self.library.init(cells)?;
+            let mut lent = self.sound_cells.clone();
+            lent.resize(cells, 0);
+            self.counts.note(&layout::broken(&lent));
+            if made != 9 || self.library.tables() != &self.sound_cells[..] {
                 return Err(format!("init of {cells} cells: {made}"));
             }
         }
         Ok(())
     }
 
+    /// Tables that break one line of document 01 alone, and tables at the very edge of each.
+    fn each_line(&mut self) -> Result<(), String> {
+        for case in lines::cases()? {
+            let lines::Case { line, tables, edits } = case;
+            let broken = layout::broken(&tables);
+            if broken.iter().ne(line.iter()) {
+                return Err(format!("{edits:?} should break {line:?}: {broken:?}"));
+            }
+            let cell = edits[0].0;
+            self.try_every_kind(&tables, cell).map_err(|what| format!("{edits:?}: {line:?}: {what}"))?;
+        }
+        Ok(())
+    }
+
     /// A whole place written with likely values.
-    fn written_places(&mut self, times: usize) -> Result<(), String> {
-        for _ in 0..times {
+    fn written_places(&mut self) -> Result<(), String> {
+        for _ in 0..PLACES_WRITTEN {
             let mut tables = self.sound_cells.clone();
             let at =
                 if self.random.percent(50) { self.write_object(&mut tables) } else { self.write_wait(&mut tables) };
@@ -210,7 +209,7 @@ impl Damage {
 
     fn write_object(&mut self, tables: &mut [u64]) -> usize {
         let places = self.random.pick(&[12, OBJECTS]);
-        let at = 1 + 4 * self.random.below(places);
+        let at = layout::object_at(self.random.below(places));
         let likely = [0, 0, 1, 1, 2, 7, u32::MAX.into(), 1 << 32];
         tables[at] = self.random.pick(&[0, 1, 1, 2, 2, 3, 3, 4]);
         for cell in &mut tables[at + 1..at + 4] {
@@ -220,7 +219,7 @@ impl Damage {
     }
 
     fn write_wait(&mut self, tables: &mut [u64]) -> usize {
-        let at = 513 + 71 * self.random.below(WAITS);
+        let at = layout::wait_at(self.random.below(WAITS));
         let n = self.random.pick(&[1, 1, 2, 3, 5, LIST]);
         let occupied: Vec<u64> =
             (0..OBJECTS).filter(|&place| self.base.objects[place].is_some()).map(|place| place as u64 + 1).collect();
@@ -238,7 +237,7 @@ impl Damage {
         tables[at + 4] = random.pick(&[0, 1, 5, NEVER]);
         tables[at + 5] = n as u64;
         tables[at + 6] = if random.percent(60) { 0 } else { handle(random) };
-        for (place, cell) in tables[at + 7..at + 71].iter_mut().enumerate() {
+        for (place, cell) in tables[at + layout::LIST_AT..][..LIST].iter_mut().enumerate() {
             *cell = if place < n { handle(random) } else { 0 };
         }
         if random.percent(10) {
@@ -248,8 +247,8 @@ impl Damage {
     }
 
     /// A few cells with values from the tables or from the likely ones.
-    fn written_cells(&mut self, times: usize) -> Result<(), String> {
-        for _ in 0..times {
+    fn written_cells(&mut self) -> Result<(), String> {
+        for _ in 0..CELLS_WRITTEN {
             let mut tables = self.sound_cells.clone();
             let mut at = 0;
             for _ in 0..1 + self.random.below(4) {
@@ -275,19 +274,25 @@ impl Damage {
 
     fn put(&mut self, tables: &[u64]) -> Option<State> {
         self.library.tables_mut().copy_from_slice(tables);
-        let read = layout::read(tables);
-        self.tables[usize::from(read.is_some())] += 1;
-        read
+        let broken = layout::broken(tables);
+        self.counts.note(&broken);
+        broken.is_empty().then(|| layout::values(tables))
     }
 
-    /// Each kind, both waits, making, and a call that names what the cell belongs to.
-    fn try_every_kind(&mut self, tables: &[u64], cell: usize) -> Result<(), String> {
-        let read = self.put(tables);
-        let seen = read.as_ref().unwrap_or(&self.base);
+    /// A call of each kind, and both waits.
+    fn every_kind(&mut self, seen: &State) -> Vec<Call> {
         let mut calls: Vec<Call> = (0..KINDS).map(|kind| self.mood.call_of(kind, &mut self.random, seen)).collect();
         let waits: Vec<Call> = calls.iter().filter_map(in_other_mode).collect();
         calls.extend(waits);
-        calls.extend(aimed(&mut self.random, seen, cell));
+        calls
+    }
+
+    /// Each kind, making, and a call that names what the cell belongs to.
+    fn try_every_kind(&mut self, tables: &[u64], cell: usize) -> Result<(), String> {
+        let read = self.put(tables);
+        let seen = read.as_ref().unwrap_or(&self.base).clone();
+        let mut calls = self.every_kind(&seen);
+        calls.extend(aimed(&mut self.random, &seen, cell));
         for call in &calls {
             self.try_call(tables, &read, call)?;
         }
@@ -305,7 +310,7 @@ impl Damage {
 
     /// Making looks at no cell.
     fn try_making(&mut self, tables: &[u64]) -> Result<(), String> {
-        let made = self.library.init(CELLS);
+        let made = self.library.init(CELLS)?;
         let due = layout::differs(self.library.tables(), &State::new());
         self.library.tables_mut().copy_from_slice(tables);
         if made == 0 && due.is_none() {
@@ -317,18 +322,15 @@ impl Damage {
 
     fn try_call(&mut self, tables: &[u64], read: &Option<State>, call: &Call) -> Result<(), String> {
         let outcome = self.library.play(call)?;
-        self.answers[outcome.answer.min(12) as usize] += 1;
+        *self.counts.calls.entry((call_name(call), read.is_none())).or_default() += 1;
+        self.counts.answers[outcome.answer.min(12) as usize] += 1;
         let (due, differs) = match read {
-            None => {
-                self.refused += 1;
-                (Outcome::answer(9), altered(&self.library, tables))
-            }
+            None => (Outcome::answer(9), altered(&self.library, tables)),
             Some(state) => {
-                self.answered += 1;
                 let mut model = Model::on(state.clone());
                 let due = model.step(call);
                 let mut search = Model { state: state.clone(), waking: Waking::Search, slip: None };
-                self.beyond_histories += u64::from(search.step(call) != due || search.state != model.state);
+                self.counts.beyond_histories += u64::from(search.step(call) != due || search.state != model.state);
                 let refused = answer::is_refusal(due.answer);
                 let after = self.library.tables();
                 let differs =
@@ -345,23 +347,6 @@ impl Damage {
         }
         Ok(())
     }
-
-    fn summary(&self, states: usize) -> Result<String, String> {
-        let never: Vec<usize> = (0..13).filter(|&answer| self.answers[answer] == 0).collect();
-        if self.refused == 0 || self.answered == 0 || !never.is_empty() {
-            return Err(format!("refused {}, answered {}, never heard {never:?}", self.refused, self.answered));
-        }
-        if self.beyond_histories == 0 {
-            return Err("no state beyond histories".into());
-        }
-        if Instant::now() > self.end {
-            return Err("took too long".into());
-        }
-        Ok(format!(
-            "{states} states, {CELLS} cells by 11 values each, {} tables damaged and {} sound, {} calls answered 9, {} otherwise ({} beyond histories)",
-            self.tables[0], self.tables[1], self.refused, self.answered, self.beyond_histories
-        ))
-    }
 }
 
 /// A wait for any as one for all, and the other way round.
@@ -371,9 +356,15 @@ fn in_other_mode(call: &Call) -> Option<Call> {
     Some(Call::Wait { mode, list: list.clone(), owner, alert, flags, pad, timeout, time })
 }
 
-fn values(held: u64) -> [u64; 11] {
+/// The edges of every range and the neighbours of what is held, but not what is held.
+fn values(held: u64) -> Vec<u64> {
     let large = 1 << 32;
-    [0, 1, 2, 3, 4, 255, large - 1, large, u64::MAX, held.wrapping_add(1), held.wrapping_sub(1)]
+    let mut values = vec![0, 1, 2, 3, 4, 64, 65, 128, 129, large - 1, large, u64::MAX];
+    values.extend([held.wrapping_add(1), held.wrapping_sub(1)]);
+    values.sort();
+    values.dedup();
+    values.retain(|&value| value != held);
+    values
 }
 
 fn altered(library: &Library, tables: &[u64]) -> Option<String> {
@@ -383,11 +374,11 @@ fn altered(library: &Library, tables: &[u64]) -> Option<String> {
 /// A change to the object that the cell belongs to, or to one that its wait names.
 fn aimed(random: &mut Random, state: &State, cell: usize) -> Option<Call> {
     let wake = WAKE_CELLS;
-    let handle = match cell {
-        0 => return Some(wait(Mode::Any, 0, NEVER, vec![1])),
-        1..=512 => (cell as u32 - 1) / 4 + 1,
-        _ => {
-            let wait = state.waits[(cell - 513) / 71].as_ref()?;
+    let handle = match layout::place_of(cell) {
+        None => return Some(any(7, 0, NEVER, &[1])),
+        Some(Place::Object(place)) => place as u32 + 1,
+        Some(Place::Wait(place)) => {
+            let wait = state.waits[place].as_ref()?;
             if wait.alert != 0 && random.percent(30) {
                 wait.alert
             } else {
@@ -395,8 +386,7 @@ fn aimed(random: &mut Random, state: &State, cell: usize) -> Option<Call> {
             }
         }
     };
-    let object = (1..=OBJECTS as u32).contains(&handle).then(|| state.objects[handle as usize - 1]).flatten();
-    Some(match object {
+    Some(match state.object(handle) {
         Some(Object::Semaphore { .. }) => Call::Post { handle, add: random.below(3) as u32, wake },
         Some(Object::Mutex { owner, .. }) if random.percent(50) => Call::Unlock { handle, owner, wake },
         Some(Object::Mutex { owner, .. }) => Call::Kill { handle, owner, wake },

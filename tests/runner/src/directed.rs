@@ -1,24 +1,23 @@
-//! Directed cases: the bench readings of document 01, the limits, the order of refusals, short lists and buffers.
-//! Every call is compared with the second model too.
+//! Directed cases: the bench readings of document 01, the rules of each call, the limits, the order of refusals.
+//! Every call is compared with the second model too. What is lent is in `lent.rs`.
 
-use crate::layout;
-use crate::library::{self, Library, CELLS, MOST_BYTES, MOST_WAKE};
+use crate::calls::{all, any, at_time, event, expire, kill, mutex, post, pulse, sem, set, unlock, with_wake};
+use crate::lent;
 use crate::play::Bench;
-use crate::script::call_text;
-use second_model::{Call, Mode, Outcome, Report, State, LIST, NEVER, OBJECTS, PICTURE_BYTES, WAITS, WAKE_CELLS};
+use crate::script::{heard_text, step_or_text};
+use second_model::{Call, Outcome, Report, LIST, NEVER, OBJECTS, PICTURE_BYTES, WAITS, WAKE_CELLS};
 
-const WAKE: usize = WAKE_CELLS;
-const MAX: u32 = u32::MAX;
+pub const MAX: u32 = u32::MAX;
 
-struct Case {
-    bench: Bench,
-    calls: u64,
+pub struct Case {
+    pub bench: Bench,
+    pub calls: u64,
 }
 
-type Done = Result<(), String>;
+pub type Done = Result<(), String>;
 type Test = (&'static str, fn(&mut Case) -> Done);
 
-const TESTS: [Test; 24] = [
+const TESTS: [Test; 30] = [
     ("P1, P2 and the picture", p1_p2),
     ("P3, P4", p3_p4),
     ("P5, P6", p5_p6),
@@ -33,16 +32,22 @@ const TESTS: [Test; 24] = [
     ("the 33rd wait", wait_33),
     ("tickets spent at 2^64-1", tickets_spent),
     ("the last ticket, 2^64-2", last_ticket),
-    ("wake lists of 0 to 160 cells", wake_lists),
-    ("32 records", records_32),
-    ("buffers of 0 to 32,832 bytes", buffers),
-    ("the longest picture", longest_picture),
+    ("wake lists of 0 to 160 cells", lent::wake_lists),
+    ("32 records", lent::records_32),
+    ("buffers of 0 to 32,832 bytes", lent::buffers),
+    ("the longest picture", lent::longest_picture),
+    ("lengths beyond 32 bits", lent::far_lengths),
+    ("the header's numbers", lent::header),
+    ("making", lent::making),
+    ("9 before 12 and 1", lent::damage_first),
     ("12 before 1", short_first),
     ("1 before 2, 3, 7, 10", argument_first),
     ("served, 5, 7, 8, 11", wait_order),
     ("clocks", clocks),
     ("cancel", cancel),
-    ("making", making),
+    ("wrong kinds", wrong_kinds),
+    ("all or none", all_or_none),
+    ("whole numbers and flags", numbers),
 ];
 
 pub fn run() -> Result<String, String> {
@@ -50,113 +55,54 @@ pub fn run() -> Result<String, String> {
     for (name, test) in TESTS {
         let mut case = Case { bench: Bench::new(None), calls: 0 };
         test(&mut case).map_err(|what| format!("{name}: {what}"))?;
-        case.bench.check_picture().map_err(|difference| format!("{name}: {difference:?}"))?;
         calls += case.calls;
     }
-    Ok(format!("{} cases, {calls} calls, version {}", TESTS.len(), library::version()))
-}
-
-// Calls.
-
-fn sem(count: u32, max: u32) -> Call {
-    Call::Sem { count, max }
-}
-fn mutex(owner: u32, count: u32) -> Call {
-    Call::Mutex { owner, count }
-}
-fn event(signaled: u32, manual: u32) -> Call {
-    Call::Event { signaled, manual }
-}
-fn post(handle: u32, add: u32) -> Call {
-    Call::Post { handle, add, wake: WAKE }
-}
-fn unlock(handle: u32, owner: u32) -> Call {
-    Call::Unlock { handle, owner, wake: WAKE }
-}
-fn kill(handle: u32, owner: u32) -> Call {
-    Call::Kill { handle, owner, wake: WAKE }
-}
-fn set(handle: u32) -> Call {
-    Call::Set { handle, wake: WAKE }
-}
-fn pulse(handle: u32) -> Call {
-    Call::Pulse { handle, wake: WAKE }
-}
-fn expire(clock: u32, time: u64) -> Call {
-    Call::Expire { clock, time, wake: WAKE }
-}
-fn wait(mode: Mode, owner: u32, alert: u32, timeout: u64, list: &[u32]) -> Call {
-    Call::Wait { mode, list: list.to_vec(), owner, alert, flags: 0, pad: 0, timeout, time: 0 }
-}
-fn any(owner: u32, alert: u32, timeout: u64, list: &[u32]) -> Call {
-    wait(Mode::Any, owner, alert, timeout, list)
-}
-fn all(owner: u32, alert: u32, timeout: u64, list: &[u32]) -> Call {
-    wait(Mode::All, owner, alert, timeout, list)
-}
-fn at_time(call: Call, now: u64) -> Call {
-    match call {
-        Call::Wait { mode, list, owner, alert, flags, pad, timeout, .. } => {
-            Call::Wait { mode, list, owner, alert, flags, pad, timeout, time: now }
-        }
-        other => other,
-    }
-}
-fn with_wake(call: Call, wake: usize) -> Call {
-    match call {
-        Call::Post { handle, add, .. } => Call::Post { handle, add, wake },
-        Call::Unlock { handle, owner, .. } => Call::Unlock { handle, owner, wake },
-        Call::Kill { handle, owner, .. } => Call::Kill { handle, owner, wake },
-        Call::Set { handle, .. } => Call::Set { handle, wake },
-        Call::Pulse { handle, .. } => Call::Pulse { handle, wake },
-        Call::Expire { clock, time, .. } => Call::Expire { clock, time, wake },
-        other => other,
-    }
+    Ok(format!("{} cases, {calls} calls", TESTS.len()))
 }
 
 impl Case {
-    fn step(&mut self, call: &Call) -> Result<Outcome, String> {
+    pub fn step(&mut self, call: &Call) -> Result<Outcome, String> {
         self.calls += 1;
-        self.bench.step(call).map_err(|difference| format!("{}: {difference:?}", call_text(call)))
+        step_or_text(&mut self.bench, call)
     }
 
     /// The call has this answer and these numbers and reports.
-    fn hears(&mut self, call: Call, answer: u32, numbers: [u64; 2], reports: &[(u64, u32, u32)]) -> Done {
+    pub fn hears(&mut self, call: Call, answer: u32, numbers: [u64; 2], reports: &[(u64, u32, u32)]) -> Done {
         let outcome = self.step(&call)?;
         let woken: Vec<(u64, u32, u32)> =
             outcome.reports.iter().map(|&Report { ticket, answer, index }| (ticket, answer, index)).collect();
         if (outcome.answer, outcome.numbers, &woken[..]) == (answer, numbers, reports) {
             return Ok(());
         }
-        Err(format!("{}: heard {outcome:?}, due {answer} {numbers:?} {reports:?}", call_text(&call)))
+        Err(format!("{}, due {answer} {numbers:?} {reports:?}", heard_text(&call, &outcome)))
     }
 
     /// The call has this answer and zeros.
-    fn answers(&mut self, call: Call, answer: u32) -> Done {
+    pub fn answers(&mut self, call: Call, answer: u32) -> Done {
         self.hears(call, answer, [0, 0], &[])
     }
 
     /// Creates objects, handles from 1 on.
-    fn create(&mut self, objects: &[Call]) -> Done {
+    pub fn create(&mut self, objects: &[Call]) -> Done {
         for (place, object) in objects.iter().enumerate() {
             self.hears(object.clone(), 0, [place as u64 + 1, 0], &[])?;
         }
         Ok(())
     }
 
-    fn reads(&mut self, call: Call, first: u64, second: u64) -> Done {
+    pub fn reads(&mut self, call: Call, first: u64, second: u64) -> Done {
         self.hears(call, 0, [first, second], &[])
     }
 
-    fn queues(&mut self, call: Call, ticket: u64) -> Done {
+    pub fn queues(&mut self, call: Call, ticket: u64) -> Done {
         self.hears(call, 11, [0, ticket], &[])
     }
 
-    fn wakes(&mut self, call: Call, previous: u64, reports: &[(u64, u32, u32)]) -> Done {
+    pub fn wakes(&mut self, call: Call, previous: u64, reports: &[(u64, u32, u32)]) -> Done {
         self.hears(call, 0, [previous, reports.len() as u64], reports)
     }
 
-    fn fill_queue(&mut self, call: &Call) -> Done {
+    pub fn fill_queue(&mut self, call: &Call) -> Done {
         (1..=WAITS as u64).try_for_each(|ticket| self.queues(call.clone(), ticket))
     }
 }
@@ -167,12 +113,12 @@ const PICTURE: &str =
     "next=2\nobjects=2\nhandle=1\nkind=sem\ncount=1\nmax=2\nhandle=2\nkind=event\nsignaled=0\nmanual=1\n\
     waits=1\nwait=1\nmode=all\nowner=7\nclock=mono\ntimeout=18446744073709551615\nalert=0\nn=2\nobj=1\nobj=2\n";
 
-fn p1_p2(case: &mut Case) -> Done {
+pub fn p1_p2(case: &mut Case) -> Done {
     case.create(&[sem(1, 2), event(0, 1)])?;
     case.queues(all(7, 0, NEVER, &[1, 2]), 1)?;
     let picture = case.step(&Call::Picture { bytes: PICTURE_BYTES })?;
-    if picture.text != PICTURE {
-        return Err(format!("picture {:?}", picture.text));
+    if picture.text != PICTURE.as_bytes() {
+        return Err(format!("picture {}", String::from_utf8_lossy(&picture.text)));
     }
     case.wakes(set(2), 0, &[(1, 0, 0)])?;
     case.reads(Call::ReadSem { handle: 1 }, 0, 2)?;
@@ -362,74 +308,12 @@ fn last_ticket(case: &mut Case) -> Done {
     case.answers(any(1, 0, NEVER, &[1]), 8)
 }
 
-// What is lent.
-
-fn wake_lists(case: &mut Case) -> Done {
-    case.create(&[sem(0, MAX), mutex(5, MAX), mutex(5, 1), event(0, 0)])?;
-    for cells in 0..=MOST_WAKE {
-        let ticket = case.bench.model.state.next;
-        case.queues(any(1, 0, 5, &[1]), ticket)?;
-        for call in [post(1, 1), unlock(2, 5), kill(3, 5), set(4), pulse(4), expire(0, 5)] {
-            let outcome = case.step(&with_wake(call.clone(), cells))?;
-            if (outcome.answer == 12) != (cells < WAKE) {
-                return Err(format!("{} with {cells} cells: {outcome:?}", call_text(&call)));
-            }
-        }
-        case.answers(Call::Cancel { ticket }, if cells < WAKE { 6 } else { 1 })?;
-    }
-    Ok(())
-}
-
-/// The longest that a wake list is filled, in ticket order though the places are not.
-fn records_32(case: &mut Case) -> Done {
-    case.create(&[event(0, 1), sem(0, 100)])?;
-    case.fill_queue(&any(1, 0, NEVER, &[1]))?;
-    case.answers(Call::Cancel { ticket: 1 }, 6)?;
-    case.queues(any(2, 0, NEVER, &[1]), 33)?;
-    let records: Vec<(u64, u32, u32)> = (2..=33).map(|ticket| (ticket, 0, 0)).collect();
-    case.wakes(set(1), 0, &records)?;
-    case.hears(Call::Reset { handle: 1 }, 0, [1, 0], &[])?;
-    (34..66).try_for_each(|ticket| case.queues(any(1, 0, 9, &[2]), ticket))?;
-    let ended: Vec<(u64, u32, u32)> = (34..66).map(|ticket| (ticket, 5, 0)).collect();
-    case.wakes(expire(0, 9), 0, &ended)?;
-    (66..98).try_for_each(|ticket| case.queues(any(1, 0, 9, &[2]), ticket))?;
-    let posted: Vec<(u64, u32, u32)> = (66..98).map(|ticket| (ticket, 0, 0)).collect();
-    case.wakes(post(2, 32), 0, &posted)
-}
-
-fn buffers(case: &mut Case) -> Done {
-    p1_p2(case)?;
-    for bytes in 0..=MOST_BYTES {
-        let outcome = case.step(&Call::Picture { bytes })?;
-        if (outcome.answer == 12) != (bytes < PICTURE_BYTES) {
-            return Err(format!("{bytes} bytes: answer {}", outcome.answer));
-        }
-    }
-    Ok(())
-}
-
-fn longest_picture(case: &mut Case) -> Done {
-    let mut objects = vec![mutex(MAX, MAX); OBJECTS - 1];
-    objects.push(event(0, 1));
-    case.create(&objects)?;
-    let list = vec![127; LIST];
-    case.bench.write_next(u64::MAX - 32);
-    for ticket in u64::MAX - 32..u64::MAX {
-        case.queues(any(MAX, 128, NEVER, &list), ticket)?;
-    }
-    let outcome = case.step(&Call::Picture { bytes: PICTURE_BYTES })?;
-    if outcome.numbers != [28_425, 0] {
-        return Err(format!("{} bytes", outcome.numbers[0]));
-    }
-    Ok(())
-}
-
 // The order of refusals.
 
 fn short_first(case: &mut Case) -> Done {
     case.create(&[sem(0, 0), mutex(5, 1)])?;
     for call in [post(9, 1), post(1, 1), unlock(2, 0), unlock(2, 6), kill(1, 0), set(1), pulse(0), expire(2, 0)] {
-        case.answers(with_wake(call, WAKE - 1), 12)?;
+        case.answers(with_wake(call, WAKE_CELLS - 1), 12)?;
     }
     case.answers(Call::Picture { bytes: PICTURE_BYTES - 1 }, 12)
 }
@@ -474,15 +358,11 @@ fn wait_order(case: &mut Case) -> Done {
 
 fn clocks(case: &mut Case) -> Done {
     case.create(&[event(0, 0)])?;
-    let real = |timeout: u64| Call::Wait {
-        mode: Mode::Any,
-        list: vec![1],
-        owner: 1,
-        alert: 0,
-        flags: 1,
-        pad: 0,
-        timeout,
-        time: 0,
+    let real = |timeout: u64| match any(1, 0, timeout, &[1]) {
+        Call::Wait { mode, list, owner, alert, pad, timeout, time, .. } => {
+            Call::Wait { mode, list, owner, alert, flags: 1, pad, timeout, time }
+        }
+        other => other,
     };
     case.queues(any(1, 0, 10, &[1]), 1)?;
     case.queues(real(10), 2)?;
@@ -509,20 +389,63 @@ fn cancel(case: &mut Case) -> Done {
     case.answers(Call::Cancel { ticket: 1 }, 1)
 }
 
-/// Making needs only the length, whatever the tables hold.
-fn making(case: &mut Case) -> Done {
-    for cells in [0, 1, 2, 512, CELLS - 1, CELLS + 1] {
-        let mut library = Library::unmade();
-        let before = library.tables().to_vec();
-        case.calls += 1;
-        if library.init(cells) != 9 || library.tables() != &before[..] || !library.guards_hold() {
-            return Err(format!("{cells} cells"));
-        }
+/// Every call that wants a kind, on an object of each other kind.
+fn wrong_kinds(case: &mut Case) -> Done {
+    case.create(&[sem(1, 2), mutex(5, 1), event(1, 1)])?;
+    for handle in 1..=3 {
+        let of_kind = [
+            (1, Call::ReadSem { handle }),
+            (1, post(handle, 1)),
+            (2, Call::ReadMutex { handle }),
+            (2, unlock(handle, 5)),
+            (2, kill(handle, 5)),
+            (3, Call::ReadEvent { handle }),
+            (3, set(handle)),
+            (3, Call::Reset { handle }),
+            (3, pulse(handle)),
+        ];
+        let wrong = of_kind.into_iter().filter(|(kind, _)| *kind != handle);
+        wrong.map(|(_, call)| call).try_for_each(|call| case.answers(call, 1))?;
     }
-    let library = Library::made();
-    case.calls += 1;
-    if layout::read(library.tables()) != Some(State::new()) || !library.guards_hold() {
-        return Err("newly made tables".into());
+    for alert in [1, 2] {
+        case.answers(any(5, alert, NEVER, &[3]), 1)?;
+        case.answers(all(5, alert, NEVER, &[3]), 1)?;
     }
-    Ok(())
+    case.hears(any(5, 3, NEVER, &[3]), 0, [0, 0], &[])
+}
+
+/// A wait for all takes everything at once or nothing; its alert takes only the alert.
+fn all_or_none(case: &mut Case) -> Done {
+    case.create(&[sem(1, 2), mutex(5, 1), event(0, 0), event(1, 0)])?;
+    case.wakes(kill(2, 5), 0, &[])?;
+    case.answers(all(6, 0, 0, &[1, 2, 3]), 5)?;
+    case.answers(all(6, 0, 0, &[2, 1, 3]), 5)?;
+    case.hears(all(6, 4, 0, &[1, 2, 3]), 0, [3, 0], &[])?;
+    case.answers(Call::ReadMutex { handle: 2 }, 4)?;
+    case.reads(Call::ReadSem { handle: 1 }, 1, 2)?;
+    case.reads(Call::ReadEvent { handle: 4 }, 0, 0)?;
+    case.queues(all(6, 4, NEVER, &[1, 2, 3]), 1)?;
+    case.queues(any(7, 0, NEVER, &[3]), 2)?;
+    case.wakes(set(3), 0, &[(1, 4, 0)])?;
+    case.reads(Call::ReadMutex { handle: 2 }, 6, 1)?;
+    case.reads(Call::ReadSem { handle: 1 }, 0, 2)?;
+    case.reads(Call::ReadEvent { handle: 3 }, 0, 0)?;
+    case.wakes(pulse(3), 0, &[(2, 0, 0)])
+}
+
+fn numbers(case: &mut Case) -> Done {
+    case.create(&[sem(MAX, MAX), event(2, 256), event(0, MAX), event(MAX, 0), mutex(MAX, MAX), sem(1, MAX)])?;
+    for add in [1, 2, MAX] {
+        case.answers(post(1, add), 3)?;
+    }
+    case.wakes(post(1, 0), MAX.into(), &[])?;
+    case.reads(Call::ReadEvent { handle: 2 }, 1, 1)?;
+    case.reads(Call::ReadEvent { handle: 3 }, 0, 1)?;
+    case.reads(Call::ReadEvent { handle: 4 }, 1, 0)?;
+    case.answers(any(MAX, 0, 0, &[5]), 5)?;
+    case.wakes(unlock(5, MAX), MAX.into(), &[])?;
+    case.answers(any(MAX, 0, 0, &[5]), 0)?;
+    case.answers(post(6, MAX), 3)?;
+    case.wakes(post(6, MAX - 1), 1, &[])?;
+    case.reads(Call::ReadSem { handle: 6 }, MAX.into(), MAX.into())
 }

@@ -2,7 +2,7 @@
 
 use crate::library::{MOST_BYTES, MOST_WAKE};
 use crate::random::Random;
-use second_model::{Call, Mode, Object, State, NEVER, OBJECTS, PICTURE_BYTES, WAKE_CELLS};
+use second_model::{Call, Mode, Object, State, NEVER, OBJECTS, PICTURE_BYTES, TICKETS_SPENT, WAKE_CELLS};
 
 #[derive(Clone, Copy, PartialEq, Eq)]
 enum Kind {
@@ -18,6 +18,10 @@ enum Length {
     Long,
 }
 
+/// From here on a reading of 32 bits, or of a sign, goes wrong.
+const SMALL: u64 = 1 << 32;
+const HALF: u64 = 1 << 63;
+
 /// Kinds of calls, both waits as one.
 pub const KINDS: usize = 17;
 
@@ -26,6 +30,8 @@ pub struct Mood {
     /// By the order of `Mood::call_of`.
     weights: [usize; KINDS],
     owners: Vec<u32>,
+    /// The ticket that the history begins with.
+    pub next: u64,
     pub prelude: usize,
     pub calls: usize,
     length: Length,
@@ -35,8 +41,9 @@ pub struct Mood {
     unsignaled: usize,
     /// Share of mutexes near the ceiling.
     ceiling: usize,
-    /// Times are below this, so that clocks go back.
-    times: u64,
+    /// Times are in so many from `first_time` on, so that clocks go back.
+    times: usize,
+    first_time: u64,
 }
 
 //                          sem mut evt cls rds rdm rde pst unl kil set rst pls wait exp can pic
@@ -51,7 +58,8 @@ impl Mood {
     /// Many waits that stay queued.
     pub fn filling(random: &mut Random) -> Mood {
         let length = Length::Mixed;
-        Mood { weights: FILLING, prelude: 40, calls: 150, length, never: 60, unsignaled: 70, ..Mood::new(random) }
+        let (next, prelude, calls) = (1, 40, 150);
+        Mood { weights: FILLING, next, prelude, calls, length, never: 60, unsignaled: 70, ..Mood::new(random) }
     }
 
     pub fn new(random: &mut Random) -> Mood {
@@ -63,6 +71,7 @@ impl Mood {
         Mood {
             weights,
             owners,
+            next: first_ticket(random),
             prelude,
             calls: 20 + random.below(280),
             length: random.pick(&[Length::Short, Length::Short, Length::Mixed, Length::Long]),
@@ -70,6 +79,7 @@ impl Mood {
             unsignaled: if weights == FILLING { 90 } else { random.pick(&[30, 60, 90]) },
             ceiling: if weights == MUTEXES { 40 } else { 10 },
             times: random.pick(&[4, 20, 1000]),
+            first_time: random.pick(&[0, 0, 0, SMALL - 2, HALF - 2]),
         }
     }
 
@@ -120,7 +130,7 @@ impl Mood {
     }
 
     fn sem(&self, random: &mut Random) -> Call {
-        let max = random.pick(&[0, 1, 2, 3, 5, 100, u32::MAX - 1, u32::MAX, u32::MAX]);
+        let max = random.pick(&[0, 1, 2, 3, 5, 100, 1 << 31, u32::MAX - 1, u32::MAX, u32::MAX]);
         let count = match random.below(100) {
             0..4 => max.wrapping_add(1),
             at if at < self.unsignaled => 0,
@@ -152,7 +162,7 @@ impl Mood {
 
     fn post(&self, random: &mut Random, state: &State) -> Call {
         let handle = handle(random, state, Some(Kind::Semaphore));
-        let room = match object(state, handle) {
+        let room = match state.object(handle) {
             Some(Object::Semaphore { count, max }) => max - count,
             _ => 1,
         };
@@ -170,7 +180,7 @@ impl Mood {
     /// A mutex and mostly its holder.
     fn holding(&self, random: &mut Random, state: &State) -> (u32, u32) {
         let handle = handle(random, state, Some(Kind::Mutex));
-        let holder = match object(state, handle) {
+        let holder = match state.object(handle) {
             Some(Object::Mutex { owner, .. }) if owner != 0 => owner,
             _ => self.owner(random),
         };
@@ -185,11 +195,11 @@ impl Mood {
         if random.percent(3) {
             return random.pick(&[0, NEVER, NEVER - 1]);
         }
-        random.below(self.times as usize) as u64
+        self.first_time + random.below(self.times) as u64
     }
 
     fn expire(&self, random: &mut Random) -> Call {
-        let clock = if random.percent(5) { random.pick(&[2, 3, u32::MAX]) } else { random.below(2) as u32 };
+        let clock = if random.percent(5) { random.pick(&[2, 3, 256, u32::MAX]) } else { random.below(2) as u32 };
         let time = self.time(random);
         Call::Expire { clock, time, wake: wake_cells(random) }
     }
@@ -200,7 +210,7 @@ impl Mood {
         let list = self.list(random, state, mode, owner);
         let alert = alert(random, state, &list);
         let flags = if random.percent(3) { random.pick(&[2, 3, 256, u32::MAX]) } else { random.below(2) as u32 };
-        let pad = if random.percent(2) { random.pick(&[1, u32::MAX]) } else { 0 };
+        let pad = if random.percent(2) { random.pick(&[1, 256, 1 << 31, u32::MAX]) } else { 0 };
         let time = self.time(random);
         let timeout = self.timeout(random, time);
         Call::Wait { mode, list, owner, alert, flags, pad, timeout, time }
@@ -214,14 +224,14 @@ impl Mood {
             0 => time,
             1 => time.saturating_add(1),
             2 => time.saturating_sub(1),
-            3 => random.pick(&[0, NEVER - 1]),
-            _ => time.saturating_add(random.below(self.times as usize) as u64),
+            3 => random.pick(&[0, NEVER - 1, time ^ SMALL, time ^ HALF]),
+            _ => time.saturating_add(random.below(self.times) as u64),
         }
     }
 
     fn list(&self, random: &mut Random, state: &State, mode: Mode, owner: u32) -> Vec<u32> {
         let length = match self.length {
-            _ if random.percent(2) => random.pick(&[0, 63, 64, 65]),
+            _ if random.percent(2) => random.pick(&[0, 63, 64, 65, 66, 256, 257]),
             Length::Short => 1 + random.below(4),
             Length::Mixed => 1 + random.below(12),
             Length::Long => random.pick(&[1, 2, 30, 62, 63, 64, 64, 65]),
@@ -237,10 +247,6 @@ impl Mood {
     }
 }
 
-fn object(state: &State, handle: u32) -> Option<Object> {
-    (1..=OBJECTS as u32).contains(&handle).then(|| state.objects[handle as usize - 1]).flatten()
-}
-
 fn is_kind(object: &Object, kind: Kind) -> bool {
     match object {
         Object::Semaphore { .. } => kind == Kind::Semaphore,
@@ -254,8 +260,9 @@ fn handles(state: &State, which: impl Fn(&Object) -> bool) -> Vec<u32> {
     places.map(|place| place as u32 + 1).collect()
 }
 
+/// At the edges, or 1 to a reading of too few bits.
 fn odd_handle(random: &mut Random) -> u32 {
-    random.pick(&[0, 0, 127, 128, 129, 130, 255, u32::MAX])
+    random.pick(&[0, 0, 127, 128, 129, 130, 255, 257, 65_537, (1 << 31) + 1, u32::MAX])
 }
 
 /// Mostly an object of the kind; else any object, any place, or an odd handle.
@@ -290,7 +297,7 @@ fn distinct(random: &mut Random, mut pool: Vec<u32>, length: usize) -> Vec<u32> 
         let other = at + random.below(pool.len() - at);
         pool.swap(at, other);
     }
-    let spare: Vec<u32> = (1..=130).filter(|handle| !pool.contains(handle)).collect();
+    let spare: Vec<u32> = (1..=300).filter(|handle| !pool.contains(handle)).collect();
     pool.extend(spare);
     pool.truncate(length);
     if length > 0 && random.percent(2) {
@@ -317,10 +324,22 @@ fn alert(random: &mut Random, state: &State, list: &[u32]) -> u32 {
     }
 }
 
+/// Mostly 1; else so that tickets are spent, or pass 32 bits or the sign.
+fn first_ticket(random: &mut Random) -> u64 {
+    let few = random.below(20) as u64;
+    match random.below(100) {
+        0..4 => TICKETS_SPENT - 2 * few,
+        4..6 => HALF - few,
+        6 => SMALL - few,
+        _ => 1,
+    }
+}
+
 fn ticket(random: &mut Random, state: &State) -> u64 {
     let tickets: Vec<u64> = state.queued().map(|wait| wait.ticket).collect();
     if tickets.is_empty() || random.percent(20) {
-        return random.pick(&[0, 1, state.next, state.next - 1, u64::MAX]);
+        let last = state.next - 1;
+        return random.pick(&[0, 1, last, state.next, last ^ SMALL, last ^ HALF, u64::MAX]);
     }
     random.pick(&tickets)
 }

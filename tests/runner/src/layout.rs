@@ -1,4 +1,5 @@
-//! An independent reading of docs/LAYOUT.md: tables as values, or damaged.
+//! An independent reading of docs/LAYOUT.md: which of document 01's lines about sound tables are broken, and the values
+//! in tables that break none.
 
 use second_model::{Clock, Mode, Object, State, Wait};
 
@@ -8,113 +9,192 @@ const OBJECT_CELLS: usize = 4;
 const FIRST_WAIT: usize = 513;
 const WAIT_PLACES: usize = 32;
 const WAIT_CELLS: usize = 71;
-const LIST_AT: usize = 7;
-const LONGEST_LIST: u64 = 64;
+pub const LIST_AT: usize = 7;
+const LONGEST_LIST: usize = 64;
+
+/// How each line of "Sound tables" can be broken, clause by clause.
+pub const LINES: [&str; 17] = [
+    "another length",
+    "a cell out of its range",
+    "an empty place not zeros",
+    "an unused list cell not zero",
+    "count above the maximum",
+    "owner 0 with a count, or no count with an owner",
+    "abandoned with an owner",
+    "an event's flag neither 0 nor 1",
+    "a wait of owner 0",
+    "a ticket twice",
+    "a ticket not below the next",
+    "a list not of 1 to 64",
+    "a listed handle without object",
+    "an alert that is no event",
+    "a handle twice in a wait for all",
+    "a listed alert in a wait for all",
+    "next ticket 0",
+];
+
+/// The lines that the tables break, each once.
+pub fn broken(tables: &[u64]) -> Vec<&'static str> {
+    if tables.len() != CELLS {
+        return vec!["another length"];
+    }
+    let mut lines = Vec::new();
+    note(&mut lines, "next ticket 0", tables[0] == 0);
+    for place in 0..OBJECT_PLACES {
+        judge_object(object_cells(tables, place), &mut lines);
+    }
+    let mut tickets = Vec::new();
+    for place in 0..WAIT_PLACES {
+        let cells = wait_cells(tables, place);
+        if cells[0] == 0 {
+            note(&mut lines, "an empty place not zeros", any_set(cells));
+            continue;
+        }
+        note(&mut lines, "a ticket twice", tickets.contains(&cells[0]));
+        note(&mut lines, "a ticket not below the next", cells[0] >= tables[0]);
+        tickets.push(cells[0]);
+        judge_wait(tables, cells, &mut lines);
+    }
+    lines.sort();
+    lines.dedup();
+    lines
+}
+
+fn note(lines: &mut Vec<&'static str>, line: &'static str, broken: bool) {
+    if broken {
+        lines.push(line);
+    }
+}
+
+fn any_set(cells: &[u64]) -> bool {
+    cells.iter().any(|&cell| cell != 0)
+}
+
+fn wide(cell: u64) -> bool {
+    cell > u32::MAX.into()
+}
+
+fn judge_object(cells: &[u64], lines: &mut Vec<&'static str>) {
+    let (count, owner, attribute) = (cells[1], cells[2], cells[3]);
+    match cells[0] {
+        0 => note(lines, "an empty place not zeros", any_set(cells)),
+        1 => {
+            note(lines, "a cell out of its range", owner != 0 || wide(attribute));
+            note(lines, "count above the maximum", count > attribute);
+        }
+        2 => {
+            note(lines, "a cell out of its range", wide(count) || wide(owner) || attribute > 1);
+            note(lines, "owner 0 with a count, or no count with an owner", (owner == 0) != (count == 0));
+            note(lines, "abandoned with an owner", attribute == 1 && owner != 0);
+        }
+        3 => {
+            note(lines, "a cell out of its range", owner != 0);
+            note(lines, "an event's flag neither 0 nor 1", count > 1 || attribute > 1);
+        }
+        _ => lines.push("a cell out of its range"),
+    }
+}
+
+/// The lines about a queued wait, but for its ticket.
+fn judge_wait(tables: &[u64], cells: &[u64], lines: &mut Vec<&'static str>) {
+    let (mode, owner, clock, n, alert) = (cells[1], cells[2], cells[3], cells[5], cells[6]);
+    let (list, unused) = cells[LIST_AT..].split_at(n.min(LONGEST_LIST as u64) as usize);
+    note(lines, "a cell out of its range", mode > 1 || wide(owner) || clock > 1);
+    note(lines, "a wait of owner 0", owner == 0);
+    note(lines, "a list not of 1 to 64", n == 0 || n > LONGEST_LIST as u64);
+    note(lines, "an unused list cell not zero", any_set(unused));
+    note(lines, "a listed handle without object", list.iter().any(|&handle| kind_of(tables, handle) == 0));
+    note(lines, "an alert that is no event", alert != 0 && kind_of(tables, alert) != 3);
+    if mode == 1 {
+        let twice = (0..list.len()).any(|i| list[..i].contains(&list[i]));
+        note(lines, "a handle twice in a wait for all", twice);
+        note(lines, "a listed alert in a wait for all", alert != 0 && list.contains(&alert));
+    }
+}
+
+/// The kind in the handle's place; 0 if there is no object.
+fn kind_of(tables: &[u64], handle: u64) -> u64 {
+    match handle as usize {
+        place @ 1..=OBJECT_PLACES => object_cells(tables, place - 1)[0],
+        _ => 0,
+    }
+}
 
 /// The values in the tables; none if they are damaged.
 pub fn read(tables: &[u64]) -> Option<State> {
-    if tables.len() != CELLS || tables[0] == 0 {
-        return None;
-    }
+    broken(tables).is_empty().then(|| values(tables))
+}
+
+/// The values in tables that break no line.
+pub fn values(tables: &[u64]) -> State {
     let mut state = State::new();
     state.next = tables[0];
     for place in 0..OBJECT_PLACES {
-        state.objects[place] = read_object(object_cells(tables, place))?;
+        state.objects[place] = read_object(object_cells(tables, place));
     }
     for place in 0..WAIT_PLACES {
-        state.waits[place] = read_wait(wait_cells(tables, place))?;
+        state.waits[place] = read_wait(wait_cells(tables, place));
     }
-    waits_sound(&state).then_some(state)
+    state
+}
+
+/// Where an object place begins: kind, count, owner, attribute.
+pub fn object_at(place: usize) -> usize {
+    1 + OBJECT_CELLS * place
+}
+
+/// Where a wait place begins: ticket, mode, owner, clock, timeout, n, alert, list.
+pub fn wait_at(place: usize) -> usize {
+    FIRST_WAIT + WAIT_CELLS * place
+}
+
+/// The place that a cell behind the next ticket belongs to.
+pub enum Place {
+    Object(usize),
+    Wait(usize),
+}
+
+pub fn place_of(cell: usize) -> Option<Place> {
+    match cell {
+        0 => None,
+        1..FIRST_WAIT => Some(Place::Object((cell - 1) / OBJECT_CELLS)),
+        _ => Some(Place::Wait((cell - FIRST_WAIT) / WAIT_CELLS)),
+    }
 }
 
 fn object_cells(tables: &[u64], place: usize) -> &[u64] {
-    let at = 1 + OBJECT_CELLS * place;
-    &tables[at..at + OBJECT_CELLS]
+    &tables[object_at(place)..][..OBJECT_CELLS]
 }
 
 fn wait_cells(tables: &[u64], place: usize) -> &[u64] {
-    let at = FIRST_WAIT + WAIT_CELLS * place;
-    &tables[at..at + WAIT_CELLS]
+    &tables[wait_at(place)..][..WAIT_CELLS]
 }
 
-fn number(cell: u64) -> Option<u32> {
-    u32::try_from(cell).ok()
+fn number(cell: u64) -> u32 {
+    u32::try_from(cell).expect("a cell in its range")
 }
 
-fn flag(cell: u64) -> Option<bool> {
-    match cell {
-        0 => Some(false),
-        1 => Some(true),
-        _ => None,
-    }
-}
-
-/// Outer none: damaged. Inner none: an empty place.
-fn read_object(cells: &[u64]) -> Option<Option<Object>> {
+fn read_object(cells: &[u64]) -> Option<Object> {
     let (count, owner, attribute) = (cells[1], cells[2], cells[3]);
-    let object = match cells[0] {
-        0 => return (count == 0 && owner == 0 && attribute == 0).then_some(None),
-        1 if owner == 0 && count <= attribute => Object::Semaphore { count: number(count)?, max: number(attribute)? },
-        2 => {
-            let abandoned = flag(attribute)?;
-            if (owner == 0) != (count == 0) || (abandoned && owner != 0) {
-                return None;
-            }
-            Object::Mutex { owner: number(owner)?, count: number(count)?, abandoned }
-        }
-        3 if owner == 0 => Object::Event { signaled: flag(count)?, manual: flag(attribute)? },
-        _ => return None,
-    };
-    Some(Some(object))
-}
-
-/// Outer none: damaged. Inner none: a free place.
-fn read_wait(cells: &[u64]) -> Option<Option<Wait>> {
-    if cells[0] == 0 {
-        return cells.iter().all(|&cell| cell == 0).then_some(None);
-    }
-    let n = cells[5];
-    if cells[2] == 0 || n == 0 || n > LONGEST_LIST {
-        return None;
-    }
-    let (list, unused) = cells[LIST_AT..].split_at(n as usize);
-    if unused.iter().any(|&cell| cell != 0) {
-        return None;
-    }
-    Some(Some(Wait {
-        ticket: cells[0],
-        mode: if flag(cells[1])? { Mode::All } else { Mode::Any },
-        owner: number(cells[2])?,
-        clock: if flag(cells[3])? { Clock::RealTime } else { Clock::Monotonic },
-        timeout: cells[4],
-        alert: number(cells[6])?,
-        list: list.iter().map(|&cell| number(cell)).collect::<Option<Vec<u32>>>()?,
-    }))
-}
-
-/// The lines about waits that look beyond their own place.
-fn waits_sound(state: &State) -> bool {
-    let mut tickets: Vec<u64> = state.queued().map(|wait| wait.ticket).collect();
-    tickets.sort();
-    let distinct = tickets.windows(2).all(|two| two[0] < two[1]);
-    distinct && tickets.iter().all(|&ticket| ticket < state.next) && state.queued().all(|w| names_sound(state, w))
-}
-
-fn names_sound(state: &State, wait: &Wait) -> bool {
-    let object = |handle: u32| match handle as usize {
-        handle @ 1..=OBJECT_PLACES => state.objects[handle - 1],
+    match cells[0] {
+        1 => Some(Object::Semaphore { count: number(count), max: number(attribute) }),
+        2 => Some(Object::Mutex { owner: number(owner), count: number(count), abandoned: attribute == 1 }),
+        3 => Some(Object::Event { signaled: count == 1, manual: attribute == 1 }),
         _ => None,
-    };
-    let listed = wait.list.iter().all(|&handle| object(handle).is_some());
-    let alert = wait.alert == 0 || matches!(object(wait.alert), Some(Object::Event { .. }));
-    listed && alert && (wait.mode == Mode::Any || no_handle_twice(wait))
+    }
 }
 
-fn no_handle_twice(wait: &Wait) -> bool {
-    let mut names = wait.list.clone();
-    names.push(wait.alert);
-    names.sort();
-    names.windows(2).all(|two| two[0] != two[1])
+fn read_wait(cells: &[u64]) -> Option<Wait> {
+    let list = &cells[LIST_AT..LIST_AT + cells[5] as usize];
+    (cells[0] != 0).then(|| Wait {
+        ticket: cells[0],
+        mode: if cells[1] == 1 { Mode::All } else { Mode::Any },
+        owner: number(cells[2]),
+        clock: if cells[3] == 1 { Clock::RealTime } else { Clock::Monotonic },
+        timeout: cells[4],
+        alert: number(cells[6]),
+        list: list.iter().map(|&cell| number(cell)).collect(),
+    })
 }
 
 /// The first cell that doesn't hold the state's value.

@@ -1,4 +1,4 @@
-//! The library through its C interface, with sentinels around and in all that is lent.
+//! The library through its C interface, with sentinels around all that is lent, and in what is lent for writing.
 
 use second_model::{Call, Mode, Outcome, Report};
 use std::os::raw::c_void;
@@ -23,33 +23,42 @@ struct Waited {
     ticket: u64,
 }
 
-type WaitCall = unsafe extern "C" fn(*mut u64, usize, *const u32, usize, u32, u32, u32, u32, u64, u64) -> Waited;
+/// A 32-bit argument. The platform's C convention leaves open what stands in the upper half of its register or place on
+/// the stack, so something is put there.
+type Word = u64;
+
+fn word(number: u32) -> Word {
+    u64::from(number) | 0xd1d1_7e57 << 32
+}
+
+type WaitCall = unsafe extern "C" fn(*mut u64, usize, *const u32, usize, Word, Word, Word, Word, u64, u64) -> Waited;
 
 extern "C" {
     fn ntsync_version() -> u32;
     fn ntsync_init(tables: *mut u64, cells: usize) -> u32;
-    fn ntsync_create_sem(tables: *mut u64, cells: usize, count: u32, max: u32) -> Pair;
-    fn ntsync_create_mutex(tables: *mut u64, cells: usize, owner: u32, count: u32) -> Pair;
-    fn ntsync_create_event(tables: *mut u64, cells: usize, signaled: u32, manual: u32) -> Pair;
-    fn ntsync_close(tables: *mut u64, cells: usize, handle: u32) -> u32;
-    fn ntsync_read_sem(tables: *const u64, cells: usize, handle: u32) -> Triple;
-    fn ntsync_read_mutex(tables: *const u64, cells: usize, handle: u32) -> Triple;
-    fn ntsync_read_event(tables: *const u64, cells: usize, handle: u32) -> Triple;
-    fn ntsync_post(t: *mut u64, c: usize, wake: *mut u64, wake_cells: usize, handle: u32, add: u32) -> Triple;
-    fn ntsync_unlock(t: *mut u64, c: usize, wake: *mut u64, wake_cells: usize, handle: u32, owner: u32) -> Triple;
-    fn ntsync_kill_owner(t: *mut u64, c: usize, wake: *mut u64, wake_cells: usize, handle: u32, owner: u32) -> Triple;
-    fn ntsync_set(t: *mut u64, c: usize, wake: *mut u64, wake_cells: usize, handle: u32) -> Triple;
-    fn ntsync_reset(tables: *mut u64, cells: usize, handle: u32) -> Triple;
-    fn ntsync_pulse(t: *mut u64, c: usize, wake: *mut u64, wake_cells: usize, handle: u32) -> Triple;
+    fn ntsync_create_sem(tables: *mut u64, cells: usize, count: Word, max: Word) -> Pair;
+    fn ntsync_create_mutex(tables: *mut u64, cells: usize, owner: Word, count: Word) -> Pair;
+    fn ntsync_create_event(tables: *mut u64, cells: usize, signaled: Word, manual: Word) -> Pair;
+    fn ntsync_close(tables: *mut u64, cells: usize, handle: Word) -> u32;
+    fn ntsync_read_sem(tables: *const u64, cells: usize, handle: Word) -> Triple;
+    fn ntsync_read_mutex(tables: *const u64, cells: usize, handle: Word) -> Triple;
+    fn ntsync_read_event(tables: *const u64, cells: usize, handle: Word) -> Triple;
+    fn ntsync_post(t: *mut u64, c: usize, wake: *mut u64, wake_cells: usize, handle: Word, add: Word) -> Triple;
+    fn ntsync_unlock(t: *mut u64, c: usize, wake: *mut u64, wake_cells: usize, handle: Word, owner: Word) -> Triple;
+    fn ntsync_kill_owner(t: *mut u64, c: usize, wake: *mut u64, wake_cells: usize, handle: Word, owner: Word)
+        -> Triple;
+    fn ntsync_set(t: *mut u64, c: usize, wake: *mut u64, wake_cells: usize, handle: Word) -> Triple;
+    fn ntsync_reset(tables: *mut u64, cells: usize, handle: Word) -> Triple;
+    fn ntsync_pulse(t: *mut u64, c: usize, wake: *mut u64, wake_cells: usize, handle: Word) -> Triple;
     fn ntsync_wait_any(
         tables: *mut u64,
         cells: usize,
         list: *const u32,
         n: usize,
-        owner: u32,
-        alert: u32,
-        flags: u32,
-        pad: u32,
+        owner: Word,
+        alert: Word,
+        flags: Word,
+        pad: Word,
         timeout: u64,
         time: u64,
     ) -> Waited;
@@ -58,14 +67,14 @@ extern "C" {
         cells: usize,
         list: *const u32,
         n: usize,
-        owner: u32,
-        alert: u32,
-        flags: u32,
-        pad: u32,
+        owner: Word,
+        alert: Word,
+        flags: Word,
+        pad: Word,
         timeout: u64,
         time: u64,
     ) -> Waited;
-    fn ntsync_expire(t: *mut u64, c: usize, wake: *mut u64, wake_cells: usize, clock: u32, time: u64) -> Triple;
+    fn ntsync_expire(t: *mut u64, c: usize, wake: *mut u64, wake_cells: usize, clock: Word, time: u64) -> Triple;
     fn ntsync_cancel(tables: *mut u64, cells: usize, ticket: u64) -> u32;
     fn ntsync_snapshot(tables: *const u64, cells: usize, buffer: *mut u8, bytes: usize) -> Pair;
 
@@ -75,20 +84,79 @@ extern "C" {
 }
 
 pub const CELLS: usize = 2785;
-const GUARD: usize = 16;
-/// The longest wake list and picture buffer that calls here lend.
+pub const GUARD: usize = 16;
+/// The longest wake list, picture buffer and list of handles that calls here lend, `play_far` excepted.
 pub const MOST_WAKE: usize = 160;
 pub const MOST_BYTES: usize = 32_768 + 64;
+const MOST_LISTED: usize = 512;
 
-pub struct Library {
-    /// Guard cells, the tables, guard cells.
-    around: Vec<u64>,
-    wake: Vec<u64>,
-    buffer: Vec<u8>,
-    untouched: Vec<u8>,
+/// An array to lend, with guards at both ends. Between calls it holds sentinels, but for the tables.
+pub struct Lent<T> {
+    cells: Vec<T>,
+    untouched: Vec<T>,
 }
 
-/// What stands in each lent cell before a call.
+impl<T: Copy + PartialEq> Lent<T> {
+    fn new(most: usize, sentinel: impl Fn(usize) -> T) -> Lent<T> {
+        let untouched: Vec<T> = (0..most + 2 * GUARD).map(sentinel).collect();
+        Lent { cells: untouched.clone(), untouched }
+    }
+
+    fn at(&mut self) -> *mut T {
+        self.cells[GUARD..].as_mut_ptr()
+    }
+
+    fn front(&self, filled: usize) -> &[T] {
+        &self.cells[GUARD..GUARD + filled]
+    }
+
+    fn front_mut(&mut self, filled: usize) -> &mut [T] {
+        &mut self.cells[GUARD..GUARD + filled]
+    }
+
+    /// For tampering; a negative cell is in the guard.
+    pub fn cell_mut(&mut self, cell: isize) -> &mut T {
+        &mut self.cells[GUARD.strict_add_signed(cell)]
+    }
+
+    /// An error if an element before or behind the filled front was written.
+    fn kept_beside(&self, filled: usize, name: &str) -> Result<(), String> {
+        let behind = GUARD + filled;
+        if self.cells[..GUARD] == self.untouched[..GUARD] && self.cells[behind..] == self.untouched[behind..] {
+            return Ok(());
+        }
+        let mut others = (0..GUARD).chain(behind..self.cells.len());
+        let at = others.find(|&i| self.cells[i] != self.untouched[i]).expect("a written element");
+        Err(format!("element {} of {name} was written, with {filled} due", at as isize - GUARD as isize))
+    }
+
+    fn restore(&mut self, filled: usize) {
+        self.cells[GUARD..GUARD + filled].copy_from_slice(&self.untouched[GUARD..GUARD + filled]);
+    }
+}
+
+/// Changes what a call left behind or answered, to see that this is noticed.
+pub type Tamper = Box<dyn FnOnce(&mut Library, &mut Outcome)>;
+
+pub struct Library {
+    pub tables: Lent<u64>,
+    pub wake: Lent<u64>,
+    pub buffer: Lent<u8>,
+    pub list: Lent<u32>,
+    /// Done once, after the given number of calls.
+    pub tamper: Option<(usize, Tamper)>,
+}
+
+/// Where the arrays of a call begin, and the lengths that no `Call` has.
+struct Lending {
+    tables: *mut u64,
+    cells: usize,
+    wake: *mut u64,
+    buffer: *mut u8,
+    list: *const u32,
+    listed: usize,
+}
+
 fn sentinel(cell: usize) -> u64 {
     0x5a5a_0000_c3c3_0000 ^ (cell as u64).wrapping_mul(0x9e37_79b9)
 }
@@ -100,147 +168,202 @@ pub fn version() -> u32 {
 impl Library {
     /// Tables filled with sentinels, not yet made.
     pub fn unmade() -> Library {
-        let untouched: Vec<u8> = (0..MOST_BYTES + GUARD).map(|i| (i * 31 + 7) as u8).collect();
         Library {
-            around: (0..CELLS + 2 * GUARD).map(sentinel).collect(),
-            wake: (0..MOST_WAKE + GUARD).map(sentinel).collect(),
-            buffer: untouched.clone(),
-            untouched,
+            tables: Lent::new(CELLS, sentinel),
+            wake: Lent::new(MOST_WAKE, sentinel),
+            buffer: Lent::new(MOST_BYTES, |i| (i * 31 + 7) as u8),
+            list: Lent::new(MOST_LISTED, |i| sentinel(i) as u32),
+            tamper: None,
         }
     }
 
     pub fn made() -> Library {
         let mut library = Library::unmade();
-        assert_eq!(library.init(CELLS), 0, "init");
+        assert_eq!(library.init(CELLS), Ok(0), "init");
         library
     }
 
     pub fn tables(&self) -> &[u64] {
-        &self.around[GUARD..GUARD + CELLS]
+        self.tables.front(CELLS)
     }
 
     pub fn tables_mut(&mut self) -> &mut [u64] {
-        &mut self.around[GUARD..GUARD + CELLS]
+        self.tables.front_mut(CELLS)
     }
 
-    pub fn guards_hold(&self) -> bool {
-        let end = GUARD + CELLS;
-        (0..GUARD).chain(end..end + GUARD).all(|i| self.around[i] == sentinel(i))
+    pub fn init(&mut self, cells: usize) -> Result<u32, String> {
+        let answer = unsafe { ntsync_init(self.tables.at(), cells) };
+        self.kept_beside(0, 0).map(|()| answer)
     }
 
-    fn at(&mut self) -> *mut u64 {
-        self.around[GUARD..].as_mut_ptr()
-    }
-
-    pub fn init(&mut self, cells: usize) -> u32 {
-        unsafe { ntsync_init(self.at(), cells) }
-    }
-
-    /// One call on the tables; an error if something lent was written that the numbers don't cover.
+    /// One call on the tables; an error if something was written that the numbers don't cover.
     pub fn play(&mut self, call: &Call) -> Result<Outcome, String> {
         self.play_cells(call, CELLS)
     }
 
-    /// The same, lending `cells` cells of tables (at most `CELLS` + guards).
+    /// The same, lending `cells` cells of tables (at most `CELLS` and the guards).
     pub fn play_cells(&mut self, call: &Call, cells: usize) -> Result<Outcome, String> {
-        assert!(cells <= CELLS + GUARD);
-        let t = self.at();
-        let w = self.wake.as_mut_ptr();
-        let outcome = unsafe {
-            match *call {
-                Call::Sem { count, max } => pair(ntsync_create_sem(t, cells, count, max)),
-                Call::Mutex { owner, count } => pair(ntsync_create_mutex(t, cells, owner, count)),
-                Call::Event { signaled, manual } => pair(ntsync_create_event(t, cells, signaled, manual)),
-                Call::Close { handle } => Outcome::answer(ntsync_close(t, cells, handle)),
-                Call::ReadSem { handle } => triple(ntsync_read_sem(t, cells, handle)),
-                Call::ReadMutex { handle } => triple(ntsync_read_mutex(t, cells, handle)),
-                Call::ReadEvent { handle } => triple(ntsync_read_event(t, cells, handle)),
-                Call::Post { handle, add, wake } => triple(ntsync_post(t, cells, w, wake, handle, add)),
-                Call::Unlock { handle, owner, wake } => triple(ntsync_unlock(t, cells, w, wake, handle, owner)),
-                Call::Kill { handle, owner, wake } => triple(ntsync_kill_owner(t, cells, w, wake, handle, owner)),
-                Call::Set { handle, wake } => triple(ntsync_set(t, cells, w, wake, handle)),
-                Call::Reset { handle } => triple(ntsync_reset(t, cells, handle)),
-                Call::Pulse { handle, wake } => triple(ntsync_pulse(t, cells, w, wake, handle)),
-                Call::Wait { mode, ref list, owner, alert, flags, pad, timeout, time } => {
-                    let kept = list.clone();
-                    let (at, n) = (list.as_ptr(), list.len());
-                    let heard = wait_call(mode)(t, cells, at, n, owner, alert, flags, pad, timeout, time);
-                    if *list != kept {
-                        return Err("the list of handles was written".into());
-                    }
-                    waited(heard)
-                }
-                Call::Expire { clock, time, wake } => triple(ntsync_expire(t, cells, w, wake, clock, time)),
-                Call::Cancel { ticket } => Outcome::answer(ntsync_cancel(t, cells, ticket)),
-                Call::Picture { bytes } => {
-                    assert!(bytes <= MOST_BYTES);
-                    pair(ntsync_snapshot(t, cells, self.buffer.as_mut_ptr(), bytes))
-                }
-            }
-        };
-        if !self.guards_hold() {
-            return Err("a cell beside the tables was written".into());
+        assert!(cells <= CELLS + GUARD && call.wake_cells().unwrap_or(0) <= MOST_WAKE);
+        assert!(!matches!(call, Call::Picture { bytes } if *bytes > MOST_BYTES));
+        let lending = self.lending(call, cells);
+        let outcome = unsafe { heard(call, &lending) };
+        self.taken_back(call, outcome)
+    }
+
+    /// The same, with one array `length` elements long, in a mapping of its own.
+    pub fn play_far(&mut self, call: &Call, far: Far, length: usize) -> Result<Outcome, String> {
+        let mapping = Mapping::new(length)?;
+        let mut lending = self.lending(call, CELLS);
+        match far {
+            Far::Tables => (lending.tables, lending.cells) = (mapping.hold(self.tables()), length),
+            Far::Wake => lending.wake = mapping.hold(self.wake.front(MOST_WAKE)),
+            Far::Buffer => lending.buffer = mapping.hold(self.buffer.front(MOST_BYTES)),
+            Far::List => (lending.list, lending.listed) = (mapping.hold(call.listed()), length),
         }
-        match *call {
-            Call::Picture { bytes } => self.take_text(outcome, bytes),
-            _ => self.take_reports(outcome, call.wake_cells()),
+        let outcome = unsafe { heard(call, &lending) };
+        match far {
+            Far::Tables => mapping.give_back(self.tables_mut()),
+            Far::Wake => mapping.give_back(self.wake.front_mut(MOST_WAKE)),
+            Far::Buffer => mapping.give_back(self.buffer.front_mut(MOST_BYTES)),
+            Far::List => mapping.give_back(self.list.front_mut(call.listed().len())),
+        }
+        self.taken_back(call, outcome)
+    }
+
+    fn lending(&mut self, call: &Call, cells: usize) -> Lending {
+        let list = call.listed();
+        self.list.front_mut(list.len()).copy_from_slice(list);
+        Lending {
+            tables: self.tables.at(),
+            cells,
+            wake: self.wake.at(),
+            buffer: self.buffer.at(),
+            list: self.list.at(),
+            listed: list.len(),
         }
     }
 
-    /// The records at the front of the wake list; every other cell must be as it was.
-    fn take_reports(&mut self, mut outcome: Outcome, lent: Option<usize>) -> Result<Outcome, String> {
-        let Some(lent) = lent else { return Ok(outcome) };
-        let woken = outcome.numbers[1] as usize;
-        if woken > lent / 3 {
-            return Err(format!("{woken} records in a wake list of {lent} cells"));
+    fn taken_back(&mut self, call: &Call, mut outcome: Outcome) -> Result<Outcome, String> {
+        match self.tamper.take() {
+            Some((0, tamper)) => tamper(self, &mut outcome),
+            later => self.tamper = later.map(|(calls, tamper)| (calls - 1, tamper)),
         }
-        for record in self.wake[..3 * woken].chunks(3) {
+        let list = call.listed();
+        if self.list.front(list.len()) != list {
+            return Err("the list of handles was written".into());
+        }
+        self.list.restore(list.len());
+        self.taken(call, outcome)
+    }
+
+    /// An error if anything but the tables, `woken` cells of the wake list and `length` bytes was written.
+    fn kept_beside(&self, woken: usize, length: usize) -> Result<(), String> {
+        self.tables.kept_beside(CELLS, "the tables")?;
+        self.wake.kept_beside(woken, "the wake list")?;
+        self.buffer.kept_beside(length, "the buffer")?;
+        self.list.kept_beside(0, "the list of handles")
+    }
+
+    /// The outcome with its records and text, taken from the fronts of what was lent for writing.
+    fn taken(&mut self, call: &Call, mut outcome: Outcome) -> Result<Outcome, String> {
+        let [first, second] = outcome.numbers.map(|number| number as usize);
+        let (woken, length) = match *call {
+            Call::Picture { bytes } if first <= bytes => (0, first),
+            Call::Picture { bytes } => return Err(format!("a picture of {first} bytes in a buffer of {bytes}")),
+            _ => match call.wake_cells() {
+                Some(lent) if second > lent / 3 => return Err(format!("{second} records in {lent} cells")),
+                Some(_) => (3 * second, 0),
+                None => (0, 0),
+            },
+        };
+        self.kept_beside(woken, length)?;
+        for record in self.wake.front(woken).chunks(3) {
             let small = |cell: u64| u32::try_from(cell).map_err(|_| format!("record cell {cell}"));
             outcome.reports.push(Report { ticket: record[0], answer: small(record[1])?, index: small(record[2])? });
         }
-        for cell in 3 * woken..self.wake.len() {
-            if self.wake[cell] != sentinel(cell) {
-                return Err(format!("cell {cell} of the wake list was written, with {woken} records"));
-            }
-        }
-        for cell in 0..3 * woken {
-            self.wake[cell] = sentinel(cell);
-        }
+        outcome.text = self.buffer.front(length).to_vec();
+        self.wake.restore(woken);
+        self.buffer.restore(length);
         Ok(outcome)
     }
+}
 
-    /// The text at the front of the buffer; every other byte must be as it was.
-    fn take_text(&mut self, mut outcome: Outcome, lent: usize) -> Result<Outcome, String> {
-        let length = outcome.numbers[0] as usize;
-        if length > lent {
-            return Err(format!("a picture of {length} bytes in a buffer of {lent}"));
-        }
-        if self.buffer[length..] != self.untouched[length..] {
-            return Err(format!("a byte behind the picture's {length} was written"));
-        }
-        outcome.text = String::from_utf8_lossy(&self.buffer[..length]).into_owned();
-        self.buffer[..length].copy_from_slice(&self.untouched[..length]);
-        Ok(outcome)
-    }
+/// The array that is longer than 32 bits can tell.
+#[derive(Clone, Copy, Debug)]
+pub enum Far {
+    Tables,
+    Wake,
+    Buffer,
+    List,
+}
 
-    /// A wait whose list is `n` handles long, the first ones those given, the rest zeros.
-    pub fn play_long_wait(&mut self, call: &Call, n: usize) -> Result<Outcome, String> {
-        let Call::Wait { mode, ref list, owner, alert, flags, pad, timeout, time } = *call else {
-            return Err("not a wait".into());
-        };
-        let bytes = n * 4;
-        // All of it to read (private, anonymous, no reserve), the first page to write.
+/// Zeros to read, private and not reserved, of which the first can be written.
+struct Mapping {
+    at: *mut c_void,
+    bytes: usize,
+}
+
+impl Mapping {
+    const WRITABLE: usize = 65_536;
+
+    /// Room for so many cells.
+    fn new(cells: usize) -> Result<Mapping, String> {
+        let bytes = (8 * cells).max(Mapping::WRITABLE);
         let at = unsafe { mmap(std::ptr::null_mut(), bytes, 1, 0x4022, -1, 0) };
-        if at as isize == -1 || unsafe { mprotect(at, 4096, 3) } != 0 {
-            return Err(format!("no room to map a list of {n} handles"));
+        if at as isize == -1 || unsafe { mprotect(at, Mapping::WRITABLE, 3) } != 0 {
+            return Err(format!("no room to map {bytes} bytes"));
         }
-        let heard = unsafe {
-            std::ptr::copy_nonoverlapping(list.as_ptr(), at.cast::<u32>(), list.len().min(n));
-            let heard = wait_call(mode)(self.at(), CELLS, at.cast(), n, owner, alert, flags, pad, timeout, time);
-            munmap(at, bytes);
-            heard
-        };
-        Ok(waited(heard))
+        Ok(Mapping { at, bytes })
+    }
+
+    fn hold<T: Copy>(&self, front: &[T]) -> *mut T {
+        assert!(size_of_val(front) <= Mapping::WRITABLE);
+        unsafe { std::ptr::copy_nonoverlapping(front.as_ptr(), self.at.cast(), front.len()) };
+        self.at.cast()
+    }
+
+    fn give_back<T: Copy>(&self, front: &mut [T]) {
+        unsafe { std::ptr::copy_nonoverlapping(self.at.cast(), front.as_mut_ptr(), front.len()) };
+    }
+}
+
+impl Drop for Mapping {
+    fn drop(&mut self) {
+        unsafe { munmap(self.at, self.bytes) };
+    }
+}
+
+unsafe fn heard(call: &Call, lent: &Lending) -> Outcome {
+    let (t, c, w) = (lent.tables, lent.cells, lent.wake);
+    match *call {
+        Call::Sem { count, max } => pair(ntsync_create_sem(t, c, word(count), word(max))),
+        Call::Mutex { owner, count } => pair(ntsync_create_mutex(t, c, word(owner), word(count))),
+        Call::Event { signaled, manual } => pair(ntsync_create_event(t, c, word(signaled), word(manual))),
+        Call::Close { handle } => Outcome::answer(ntsync_close(t, c, word(handle))),
+        Call::ReadSem { handle } => triple(ntsync_read_sem(t, c, word(handle))),
+        Call::ReadMutex { handle } => triple(ntsync_read_mutex(t, c, word(handle))),
+        Call::ReadEvent { handle } => triple(ntsync_read_event(t, c, word(handle))),
+        Call::Post { handle, add, wake } => triple(ntsync_post(t, c, w, wake, word(handle), word(add))),
+        Call::Unlock { handle, owner, wake } => triple(ntsync_unlock(t, c, w, wake, word(handle), word(owner))),
+        Call::Kill { handle, owner, wake } => triple(ntsync_kill_owner(t, c, w, wake, word(handle), word(owner))),
+        Call::Set { handle, wake } => triple(ntsync_set(t, c, w, wake, word(handle))),
+        Call::Reset { handle } => triple(ntsync_reset(t, c, word(handle))),
+        Call::Pulse { handle, wake } => triple(ntsync_pulse(t, c, w, wake, word(handle))),
+        Call::Wait { mode, owner, alert, flags, pad, timeout, time, .. } => waited(wait_call(mode)(
+            t,
+            c,
+            lent.list,
+            lent.listed,
+            word(owner),
+            word(alert),
+            word(flags),
+            word(pad),
+            timeout,
+            time,
+        )),
+        Call::Expire { clock, time, wake } => triple(ntsync_expire(t, c, w, wake, word(clock), time)),
+        Call::Cancel { ticket } => Outcome::answer(ntsync_cancel(t, c, ticket)),
+        Call::Picture { bytes } => pair(ntsync_snapshot(t, c, lent.buffer, bytes)),
     }
 }
 

@@ -1,23 +1,30 @@
 //! Tests of libntsync.a through its C interface.
-//! runner [--vectors] [--directed] [--random] [--damaged] [--slips] [--seed N] [--calls N] [--seconds N]
-//! No mode named: all of them.
+//! runner [--vectors] [--directed] [--tampered] [--random] [--damaged] [--slips] [--seed N] [--calls N] [--seconds N]
+//! No mode named: all of them. runner --script FILE plays the histories of a file in the notation of the vectors.
 
+mod calls;
 mod coverage;
 mod damaged;
 mod directed;
 mod generate;
 mod history;
 mod layout;
+mod lent;
 mod library;
+mod lines;
 mod play;
 mod random;
 mod script;
+mod shrink;
 mod slips;
+mod states;
+mod tampered;
 mod vectors;
 
 use std::process::ExitCode;
-use std::time::Instant;
+use std::time::{Duration, Instant};
 
+/// Calls and seconds are for the random histories, of each seed.
 #[derive(Clone, Copy)]
 pub struct Limits {
     pub seed: Option<u64>,
@@ -25,40 +32,51 @@ pub struct Limits {
     pub seconds: Option<u64>,
 }
 
+impl Limits {
+    /// When to stop, if a time was given. Without one the work is fixed, so that a slow machine fails nothing.
+    pub fn end(&self) -> Option<Instant> {
+        self.seconds.map(|seconds| Instant::now() + Duration::from_secs(seconds))
+    }
+}
+
 type Run = fn(Limits) -> Result<String, String>;
 
-const MODES: [(&str, Run); 5] = [
+const MODES: [(&str, Run); 6] = [
     ("vectors", |_| vectors::run()),
     ("directed", |_| directed::run()),
+    ("tampered", |_| tampered::run()),
     ("random", history::run),
     ("damaged", damaged::run),
     ("slips", slips::run),
 ];
 
 fn main() -> ExitCode {
-    let (modes, limits) = match arguments() {
+    let given = match arguments() {
         Ok(given) => given,
         Err(what) => {
             eprintln!("{what}");
             return ExitCode::from(2);
         }
     };
-    let mut failed = false;
+    let mut passed = true;
+    if let Some(file) = &given.script {
+        passed = report("script", || vectors::run_script(file));
+    }
     for (name, run) in MODES {
-        if modes.is_empty() || modes.iter().any(|mode| mode == name) {
-            failed |= !report(name, run, limits);
+        if given.modes.contains(&name) {
+            passed &= report(name, || run(given.limits));
         }
     }
-    if failed {
-        ExitCode::FAILURE
-    } else {
+    if passed {
         ExitCode::SUCCESS
+    } else {
+        ExitCode::FAILURE
     }
 }
 
-fn report(name: &str, run: Run, limits: Limits) -> bool {
+fn report(name: &str, run: impl FnOnce() -> Result<String, String>) -> bool {
     let start = Instant::now();
-    let result = run(limits);
+    let result = run();
     let seconds = start.elapsed().as_secs_f64();
     match &result {
         Ok(counts) => println!("{name}: passed, {counts}, {seconds:.1} s"),
@@ -67,9 +85,15 @@ fn report(name: &str, run: Run, limits: Limits) -> bool {
     result.is_ok()
 }
 
-fn arguments() -> Result<(Vec<String>, Limits), String> {
-    let mut modes = Vec::new();
-    let mut limits = Limits { seed: None, calls: None, seconds: None };
+struct Given {
+    modes: Vec<&'static str>,
+    limits: Limits,
+    script: Option<String>,
+}
+
+fn arguments() -> Result<Given, String> {
+    let limits = Limits { seed: None, calls: None, seconds: None };
+    let mut given = Given { modes: Vec::new(), limits, script: None };
     let mut words = std::env::args().skip(1);
     while let Some(word) = words.next() {
         let mut number = || {
@@ -77,12 +101,18 @@ fn arguments() -> Result<(Vec<String>, Limits), String> {
             value.ok_or(format!("{word} takes a number")).map(Some)
         };
         match word.trim_start_matches("--") {
-            "seed" => limits.seed = number()?,
-            "calls" => limits.calls = number()?,
-            "seconds" => limits.seconds = number()?,
-            mode if MODES.iter().any(|(name, _)| *name == mode) => modes.push(mode.to_string()),
-            _ => return Err(format!("unknown argument {word}")),
+            "seed" => given.limits.seed = number()?,
+            "calls" => given.limits.calls = number()?,
+            "seconds" => given.limits.seconds = number()?,
+            "script" => given.script = Some(words.next().ok_or("--script takes a file")?),
+            mode => {
+                let known = MODES.iter().find(|(name, _)| *name == mode);
+                given.modes.push(known.ok_or(format!("unknown argument {word}"))?.0);
+            }
         }
     }
-    Ok((modes, limits))
+    if given.modes.is_empty() && given.script.is_none() {
+        given.modes = MODES.iter().map(|(name, _)| *name).collect();
+    }
+    Ok(given)
 }

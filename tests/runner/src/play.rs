@@ -20,56 +20,75 @@ pub struct Difference {
 }
 
 impl Bench {
-    /// Newly made tables on both sides.
     pub fn new(slip: Option<Slip>) -> Bench {
         let library = Library::made();
         let before = library.tables().to_vec();
         Bench { library, model: Model::new(slip), before }
     }
 
-    /// Starts a new history.
-    pub fn make(&mut self, slip: Option<Slip>) {
-        assert_eq!(self.library.init(CELLS), 0, "init");
+    /// Starts a new history: newly made tables on both sides, over whatever the last one left.
+    pub fn make(&mut self) {
+        assert_eq!(self.library.init(CELLS), Ok(0), "init");
         self.before.copy_from_slice(self.library.tables());
-        self.model = Model::new(slip);
+        self.model = Model::new(self.model.slip);
         assert_eq!(layout::differs(self.library.tables(), &self.model.state), None, "newly made tables");
     }
 
-    /// Writes the next ticket on both sides.
+    /// Writes the next ticket on both sides: an age that no history here can reach by calls.
     pub fn write_next(&mut self, next: u64) {
         self.library.tables_mut()[0] = next;
         self.before[0] = next;
         self.model.state.next = next;
     }
 
-    /// One call on both; what both answered.
+    /// One call on both, and then the picture of both; what both answered to the call.
     pub fn step(&mut self, call: &Call) -> Result<Outcome, Difference> {
+        let outcome = self.call(call)?;
+        match self.call(&Call::Picture { bytes: PICTURE_BYTES }) {
+            Ok(_) => Ok(outcome),
+            Err(Difference { what, .. }) => {
+                Err(Difference { library: Some(outcome.clone()), model: outcome, what: format!("afterwards: {what}") })
+            }
+        }
+    }
+
+    fn call(&mut self, call: &Call) -> Result<Outcome, Difference> {
         let model = self.model.step(call);
         let library = match self.library.play(call) {
             Ok(outcome) => outcome,
             Err(what) => return Err(Difference { library: None, model, what }),
         };
-        match self.compare(&library, &model) {
+        match self.compare(call, &library, &model) {
             None => Ok(library),
             Some(what) => Err(Difference { library: Some(library), model, what }),
         }
     }
 
-    /// The picture of both, without counting as a call.
-    pub fn check_picture(&mut self) -> Result<(), Difference> {
-        self.step(&Call::Picture { bytes: PICTURE_BYTES }).map(|_| ())
-    }
-
-    fn compare(&mut self, library: &Outcome, model: &Outcome) -> Option<String> {
+    fn compare(&mut self, call: &Call, library: &Outcome, model: &Outcome) -> Option<String> {
         if library != model {
-            return Some(if library.text != model.text { "the picture" } else { "the answer" }.into());
+            return Some(outcomes_differ(library, model));
         }
-        if answer::is_refusal(library.answer) {
-            let untouched = self.library.tables() == &self.before[..];
-            return (!untouched).then(|| "tables written by a refused call".into());
+        let tables = self.library.tables();
+        if answer::is_refusal(library.answer) || matches!(call, Call::Picture { .. }) {
+            return (tables != &self.before[..]).then(|| "tables written by a refused call or a picture".into());
         }
-        let differs = layout::differs(self.library.tables(), &self.model.state);
-        self.before.copy_from_slice(self.library.tables());
+        let differs = layout::differs(tables, &self.model.state);
+        self.before.copy_from_slice(tables);
         differs
     }
+}
+
+fn outcomes_differ(library: &Outcome, model: &Outcome) -> String {
+    if library.text == model.text {
+        return "the answer".into();
+    }
+    let mut both = lines(library).zip(lines(model)).enumerate();
+    let (at, (heard, due)) = both.find(|(_, (heard, due))| heard != due).expect("a differing line");
+    format!("line {} of the picture: library {heard:?}, model {due:?}", at + 1)
+}
+
+/// The text's lines, and none ever after.
+fn lines(outcome: &Outcome) -> impl Iterator<Item = Option<String>> + '_ {
+    let line = |bytes: &[u8]| Some(String::from_utf8_lossy(bytes).into_owned());
+    outcome.text.split(|&byte| byte == b'\n').map(line).chain(std::iter::repeat(None))
 }

@@ -1,10 +1,13 @@
-//! Calls and answers in the notation of vectors/histories.txt.
-//! Added here: `expire CLOCK TIME`, `picture`, and behind `#` the time given and lengths other than 96 and 32,768.
+//! Calls, answers and failing histories in the notation of vectors/histories.txt.
+//! Added here: `expire CLOCK TIME`, `picture`, and behind `#` the time given to a wait if it is not 0 and lengths other
+//! than 96 and 32,768; in a title `next=N`, a next ticket other than 1 that the history begins with.
 
-use second_model::{Call, Mode, Outcome, NEVER};
+use crate::history::History;
+use crate::play::{Bench, Difference};
+use second_model::{Call, Mode, Outcome, Slip, NEVER, PICTURE_BYTES, WAKE_CELLS};
 
 pub fn call_text(call: &Call) -> String {
-    match call {
+    let words = match call {
         Call::Sem { count, max } => format!("sem {count} {max}"),
         Call::Mutex { owner, count } => format!("mutex {owner} {count}"),
         Call::Event { signaled, manual } => format!("event {signaled} {manual}"),
@@ -12,38 +15,37 @@ pub fn call_text(call: &Call) -> String {
         Call::ReadSem { handle } => format!("readsem {handle}"),
         Call::ReadMutex { handle } => format!("readmutex {handle}"),
         Call::ReadEvent { handle } => format!("readevent {handle}"),
-        Call::Post { handle, add, wake } => format!("post {handle} {add}{}", wake_note(*wake)),
-        Call::Unlock { handle, owner, wake } => format!("unlock {handle} {owner}{}", wake_note(*wake)),
-        Call::Kill { handle, owner, wake } => format!("kill {handle} {owner}{}", wake_note(*wake)),
-        Call::Set { handle, wake } => format!("set {handle}{}", wake_note(*wake)),
+        Call::Post { handle, add, .. } => format!("post {handle} {add}"),
+        Call::Unlock { handle, owner, .. } => format!("unlock {handle} {owner}"),
+        Call::Kill { handle, owner, .. } => format!("kill {handle} {owner}"),
+        Call::Set { handle, .. } => format!("set {handle}"),
         Call::Reset { handle } => format!("reset {handle}"),
-        Call::Pulse { handle, wake } => format!("pulse {handle}{}", wake_note(*wake)),
-        Call::Wait { mode, list, owner, alert, flags, pad, timeout, time } => {
-            let mode = mode_name(*mode);
+        Call::Pulse { handle, .. } => format!("pulse {handle}"),
+        Call::Wait { mode, list, owner, alert, flags, pad, timeout, .. } => {
+            let mode = if *mode == Mode::All { "all" } else { "any" };
             let timeout = if *timeout == NEVER { "never".into() } else { timeout.to_string() };
-            let n = list.len();
-            let list = list_text(list);
-            format!("raw {mode} {owner} {alert} {timeout} {flags} {pad} {n}{list} # time {time}")
+            let (n, handles) = (list.len(), list_text(list));
+            match (flags, pad) {
+                (0, 0) => format!("{mode} {owner} {alert} {timeout}{handles}"),
+                _ => format!("raw {mode} {owner} {alert} {timeout} {flags} {pad} {n}{handles}"),
+            }
         }
-        Call::Expire { clock, time, wake } => format!("expire {clock} {time}{}", wake_note(*wake)),
+        Call::Expire { clock, time, .. } => format!("expire {clock} {time}"),
         Call::Cancel { ticket } => format!("cancel {ticket}"),
-        Call::Picture { bytes: 32_768 } => "picture".into(),
-        Call::Picture { bytes } => format!("picture # buffer {bytes}"),
-    }
+        Call::Picture { .. } => "picture".into(),
+    };
+    words + &note(call)
 }
 
-pub fn mode_name(mode: Mode) -> &'static str {
-    match mode {
-        Mode::Any => "any",
-        Mode::All => "all",
-    }
-}
-
-fn wake_note(cells: usize) -> String {
-    if cells == 96 {
-        String::new()
-    } else {
-        format!(" # wake {cells}")
+/// What the notation of the vectors doesn't say.
+fn note(call: &Call) -> String {
+    match *call {
+        Call::Wait { time, .. } if time != 0 => format!(" # time {time}"),
+        Call::Picture { bytes } if bytes != PICTURE_BYTES => format!(" # buffer {bytes}"),
+        _ => match call.wake_cells() {
+            Some(cells) if cells != WAKE_CELLS => format!(" # wake {cells}"),
+            _ => String::new(),
+        },
     }
 }
 
@@ -54,19 +56,62 @@ fn list_text(list: &[u32]) -> String {
         .collect()
 }
 
+/// The names of the two numbers of a call's C struct.
+pub fn number_names(call: &Call) -> [&'static str; 2] {
+    match call {
+        Call::Sem { .. } | Call::Mutex { .. } | Call::Event { .. } => ["handle", ""],
+        Call::ReadSem { .. } => ["count", "max"],
+        Call::ReadMutex { .. } => ["owner", "count"],
+        Call::ReadEvent { .. } => ["signaled", "manual"],
+        Call::Wait { .. } => ["index", "ticket"],
+        Call::Close { .. } | Call::Cancel { .. } => ["", ""],
+        Call::Picture { .. } => ["length", ""],
+        _ => ["previous", "woken"],
+    }
+}
+
 pub fn outcome_text(call: &Call, outcome: &Outcome) -> String {
-    let [first, second] = outcome.numbers;
-    let numbers = match call {
-        Call::Sem { .. } | Call::Mutex { .. } | Call::Event { .. } => format!(" handle={first}"),
-        Call::Close { .. } | Call::Cancel { .. } => String::new(),
-        Call::ReadSem { .. } => format!(" count={first} max={second}"),
-        Call::ReadMutex { .. } => format!(" owner={first} count={second}"),
-        Call::ReadEvent { .. } => format!(" signaled={first} manual={second}"),
-        Call::Wait { .. } => format!(" index={first} ticket={second}"),
-        Call::Picture { .. } => format!(" length={first}"),
-        _ => format!(" previous={first}"),
-    };
-    let woken: String =
-        outcome.reports.iter().map(|r| format!(" woken({},{},{})", r.ticket, r.answer, r.index)).collect();
-    format!("{}{numbers}{woken}", outcome.answer)
+    let named = number_names(call).into_iter().zip(outcome.numbers);
+    let stated = named.filter(|(name, _)| !matches!(*name, "" | "woken"));
+    let numbers: String = stated.map(|(name, number)| format!(" {name}={number}")).collect();
+    let woken = outcome.reports.iter().map(|r| format!(" woken({},{},{})", r.ticket, r.answer, r.index));
+    format!("{}{numbers}{}", outcome.answer, woken.collect::<String>())
+}
+
+/// One step's line; `name` is the history's letters and the step's number.
+pub fn step_text(name: &str, call: &str, rest: &str) -> String {
+    format!("  {name:<7} {call:<58} => {rest}\n")
+}
+
+/// A failing history; what stands after => is the model's.
+pub fn history_text(history: &History, slip: Option<Slip>) -> String {
+    let mut bench = Bench::new(slip);
+    history.begin(&mut bench);
+    let mut text = String::from("F a failing history");
+    text += &if history.next == 1 { "\n".into() } else { format!(", next={}\n", history.next) };
+    for (at, call) in history.calls.iter().enumerate() {
+        let rest = match bench.step(call) {
+            Ok(outcome) => outcome_text(call, &outcome),
+            Err(difference) => difference_text(call, &difference),
+        };
+        text += &step_text(&format!("F.{}", at + 1), &call_text(call), &rest);
+    }
+    text
+}
+
+fn difference_text(call: &Call, difference: &Difference) -> String {
+    let Difference { library, model, what } = difference;
+    let heard = library.as_ref().map_or("-".into(), |outcome| outcome_text(call, outcome));
+    format!("{} | LIBRARY: {heard} ({what})", outcome_text(call, model))
+}
+
+/// A call and what was heard, or the difference, for messages.
+pub fn heard_text(call: &Call, outcome: &Outcome) -> String {
+    format!("{} => {}", call_text(call), outcome_text(call, outcome))
+}
+
+/// A call on both sides; a difference as text.
+pub fn step_or_text(bench: &mut Bench, call: &Call) -> Result<Outcome, String> {
+    let step = bench.step(call);
+    step.map_err(|difference| format!("{} => {}", call_text(call), difference_text(call, &difference)))
 }

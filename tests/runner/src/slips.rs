@@ -1,15 +1,15 @@
-//! Each slip of document 01, put into the second model, must be found by the random histories.
+//! Each slip of document 01, put into the second model, must be found by the random histories, and its script must be
+//! the shrunk history when it is read back.
 
-use crate::coverage::Coverage;
-use crate::history::{first_difference, play_many, shrunk_script};
+use crate::history::{play_many, Failure};
+use crate::shrink::shrunk;
+use crate::vectors::read_back;
 use crate::Limits;
 use second_model::Slip;
-use std::time::{Duration, Instant};
 
 const SEED: u64 = 5;
+/// In which each slip must be found.
 const CALLS: u64 = 200_000;
-/// For each slip.
-const SECONDS: u64 = 8;
 
 const SLIPS: [(Slip, &str); 5] = [
     (Slip::UnlockWakesAtZero, "unlock wakes only at zero"),
@@ -20,18 +20,28 @@ const SLIPS: [(Slip, &str); 5] = [
 ];
 
 pub fn run(limits: Limits) -> Result<String, String> {
-    let (seed, most) = (limits.seed.unwrap_or(SEED), limits.calls.unwrap_or(CALLS));
+    let seed = limits.seed.unwrap_or(SEED);
     let mut found = Vec::new();
     for (slip, name) in SLIPS {
-        let end = Instant::now() + Duration::from_secs(limits.seconds.unwrap_or(SECONDS));
-        let mut coverage = Coverage::default();
-        let failure = play_many(seed, most, end, Some(slip), &mut coverage);
+        let (coverage, failure) = play_many(seed, CALLS, None, Some(slip));
         let failure = failure.ok_or(format!("slip not found in {} calls: {name}", coverage.calls))?;
-        if first_difference(&failure.calls, None).is_some() {
-            return Err(format!("{name}: the difference remains without the slip"));
-        }
-        print!("  {name}\n{}", shrunk_script(failure, Some(slip)));
+        let script = script_of(failure, slip).map_err(|what| format!("{name}: {what}"))?;
+        print!("{name}\n{script}");
         found.push(format!("{name}: call {}", coverage.calls + 1));
     }
     Ok(format!("{} of {} found, {}", found.len(), SLIPS.len(), found.join(", ")))
+}
+
+fn script_of(failure: Failure, slip: Slip) -> Result<String, String> {
+    let (history, script) = shrunk(failure.history, Some(slip));
+    if read_back(&script)? != history {
+        return Err(format!("the script reads otherwise than the history\n{script}"));
+    }
+    if history.first_difference(None).is_some() {
+        return Err(format!("the difference remains without the slip\n{script}"));
+    }
+    match history.first_difference(Some(slip)) {
+        Some((last, _)) if last + 1 == history.calls.len() => Ok(script),
+        _ => Err(format!("the last call does not differ\n{script}")),
+    }
 }

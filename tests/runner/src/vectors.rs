@@ -1,16 +1,18 @@
-//! Plays vectors/histories.txt through the C interface, and beside it the second model.
+//! Plays vectors/histories.txt, or a script in its notation, through the C interface, and beside it the second model.
 
-use crate::library::Library;
+use crate::history::History;
+use crate::library::Far;
 use crate::play::Bench;
-use second_model::{Call, Mode, Outcome, Report, LIST, NEVER, WAKE_CELLS};
+use crate::script::{heard_text, number_names, outcome_text, step_or_text, step_text};
+use second_model::{answer, Call, Mode, Outcome, Report, LIST, NEVER, PICTURE_BYTES, WAKE_CELLS};
 
 const FILE: &str = include_str!("../../vectors/histories.txt");
-/// The time given to every wait, so that timeout 0 is due already.
-const TIME: u64 = 0;
 
-#[derive(Debug)]
+#[derive(Clone, Debug)]
 struct Step {
     name: String,
+    /// The call as it was written.
+    text: String,
     call: Call,
     /// The stated length of a list that has fewer handles written out.
     length: Option<usize>,
@@ -19,38 +21,88 @@ struct Step {
     woken: Vec<Report>,
 }
 
-type History = (String, Vec<Step>);
+struct Script {
+    title: String,
+    /// The ticket that the history begins with.
+    next: u64,
+    steps: Vec<Step>,
+}
 
 pub fn run() -> Result<String, String> {
-    let histories = parse()?;
+    let first = FILE.find("\nK1 ").ok_or("no history K1")?;
+    play_text(&FILE[first..], &mut String::new())
+}
+
+/// Plays the histories of a file and prints what was heard.
+pub fn run_script(file: &str) -> Result<String, String> {
+    let text = std::fs::read_to_string(file).map_err(|what| format!("{file}: {what}"))?;
+    let mut heard = String::new();
+    let played = play_text(&text, &mut heard);
+    print!("{heard}");
+    played
+}
+
+/// The calls of a script's one history.
+pub fn read_back(text: &str) -> Result<History, String> {
+    let script = parse(text)?.pop().ok_or("no history")?;
+    Ok(History { next: script.next, calls: script.steps.into_iter().map(|step| step.call).collect() })
+}
+
+fn play_text(text: &str, heard: &mut String) -> Result<String, String> {
+    let scripts = parse(text)?;
     let mut steps = 0;
-    for (title, history) in &histories {
-        play(history).map_err(|what| format!("history {title}: {what}"))?;
-        steps += history.len();
+    for script in &scripts {
+        play(script, heard).map_err(|what| format!("{}: {what}", script.title))?;
+        steps += script.steps.len();
     }
-    Ok(format!("{} histories, {steps} steps", histories.len()))
+    if steps == 0 {
+        return Err("no step".into());
+    }
+    Ok(format!("{} histories, {steps} steps", scripts.len()))
 }
 
-fn play(history: &[Step]) -> Result<(), String> {
+fn play(script: &Script, heard: &mut String) -> Result<(), String> {
     let mut bench = Bench::new(None);
-    for step in history {
+    History { next: script.next, calls: Vec::new() }.begin(&mut bench);
+    for step in &script.steps {
         let outcome = match step.length {
-            Some(n) => long_wait(&mut bench.library, &step.call, n)?,
-            None => bench.step(&step.call).map_err(|d| format!("{}: against the model: {d:?}", step.name))?,
+            Some(n) => long_wait(&mut bench, &step.call, n)?,
+            None => step_or_text(&mut bench, &step.call).map_err(|what| format!("{} {what}", step.name))?,
         };
-        check(step, &outcome).map_err(|what| format!("{} {what}: heard {outcome:?}", step.name))?;
+        *heard += &step_text(&step.name, &step.text, &outcome_text(&step.call, &outcome));
+        check(step, &outcome)
+            .map_err(|what| format!("{} {}, but the step {what}", step.name, heard_text(&step.call, &outcome)))?;
+        if other_steps(step).iter().any(|other| check(other, &outcome).is_ok()) {
+            return Err(format!("{}: a step with other numbers would pass too", step.name));
+        }
     }
-    bench.check_picture().map_err(|d| format!("picture: {d:?}"))
+    Ok(())
 }
 
-/// A list too long to be written out: refused, so the model is not asked.
-fn long_wait(library: &mut Library, call: &Call, n: usize) -> Result<Outcome, String> {
-    let before = library.tables().to_vec();
-    let outcome = library.play_long_wait(call, n)?;
-    if library.tables() != &before[..] {
-        return Err("tables written by a refused call".into());
+/// The step with one thing changed that it states, so that no line passes unread.
+fn other_steps(step: &Step) -> Vec<Step> {
+    let mut others = vec![Step { answer: step.answer + 1, ..step.clone() }];
+    for at in 0..step.numbers.len() {
+        let mut other = step.clone();
+        other.numbers[at].1 ^= 1;
+        others.push(other);
     }
-    Ok(outcome)
+    for at in 0..step.woken.len() {
+        let mut other = step.clone();
+        other.woken.remove(at);
+        others.push(other);
+    }
+    others
+}
+
+/// A list too long to be written out: refused by its length, so the model is not asked.
+fn long_wait(bench: &mut Bench, call: &Call, n: usize) -> Result<Outcome, String> {
+    let before = bench.library.tables().to_vec();
+    let outcome = bench.library.play_far(call, Far::List, n)?;
+    if answer::is_refusal(outcome.answer) && bench.library.tables() == &before[..] {
+        return Ok(outcome);
+    }
+    Err(format!("not refused, or tables written: {}", heard_text(call, &outcome)))
 }
 
 fn check(step: &Step, outcome: &Outcome) -> Result<(), String> {
@@ -73,19 +125,6 @@ fn check(step: &Step, outcome: &Outcome) -> Result<(), String> {
     Ok(())
 }
 
-/// The names of the two numbers of a call's C struct.
-fn number_names(call: &Call) -> [&'static str; 2] {
-    match call {
-        Call::Sem { .. } | Call::Mutex { .. } | Call::Event { .. } => ["handle", ""],
-        Call::ReadSem { .. } => ["count", "max"],
-        Call::ReadMutex { .. } => ["owner", "count"],
-        Call::ReadEvent { .. } => ["signaled", "manual"],
-        Call::Wait { .. } => ["index", "ticket"],
-        Call::Close { .. } | Call::Cancel { .. } | Call::Picture { .. } => ["", ""],
-        _ => ["previous", "woken"],
-    }
-}
-
 fn number_named(call: &Call, outcome: &Outcome, key: &str) -> Option<u64> {
     number_names(call).iter().position(|name| *name == key).map(|at| outcome.numbers[at])
 }
@@ -101,29 +140,33 @@ fn unstated_number(step: &Step, outcome: &Outcome) -> bool {
 
 // Reading the file.
 
-fn parse() -> Result<Vec<History>, String> {
-    let mut histories: Vec<History> = Vec::new();
-    let body = FILE.lines().skip_while(|line| !line.starts_with("K1 "));
-    for line in body.filter(|line| !line.trim().is_empty()) {
-        if !line.starts_with(' ') {
-            histories.push((line.to_string(), Vec::new()));
+/// Titles begin at the margin, steps don't.
+fn parse(text: &str) -> Result<Vec<Script>, String> {
+    let mut scripts: Vec<Script> = Vec::new();
+    for line in text.lines().filter(|line| !line.trim().is_empty()) {
+        if !line.starts_with(' ') && !line.contains("=>") {
+            let next = line.split_once("next=").map_or(Ok(1), |(_, number)| number.trim().parse());
+            let next = next.map_err(|_| format!("not understood: {line}"))?;
+            scripts.push(Script { title: line.to_string(), next, steps: Vec::new() });
             continue;
         }
         let step = parse_step(line).ok_or_else(|| format!("not understood: {line}"))?;
-        histories.last_mut().ok_or("a step before any history")?.1.push(step);
+        scripts.last_mut().ok_or("a step before any history")?.steps.push(step);
     }
-    Ok(histories)
+    scripts.retain(|script| !script.steps.is_empty());
+    Ok(scripts)
 }
 
 fn parse_step(line: &str) -> Option<Step> {
-    let ours = line.split("| KERNEL:").next()?;
+    let ours = line.split(" | ").next()?;
     let (left, right) = ours.split_once("=>")?;
-    let mut words = left.split_whitespace();
-    let name = words.next()?.to_string();
-    let (call, length) = parse_call(&words.collect::<Vec<_>>())?;
+    let (name, text) = left.trim().split_once(' ')?;
+    let (name, text) = (name.to_string(), text.trim().to_string());
+    let (words, note) = text.split_once('#').unwrap_or((&text, ""));
+    let (call, length) = parse_call(&words.split_whitespace().collect::<Vec<_>>(), &parse_note(note)?)?;
     let mut right = right.split_whitespace();
     let answer = right.next()?.parse().ok()?;
-    let mut step = Step { name, call, length, answer, numbers: Vec::new(), woken: Vec::new() };
+    let mut step = Step { name, text, call, length, answer, numbers: Vec::new(), woken: Vec::new() };
     for word in right {
         match word.split_once('=') {
             Some((key, value)) => step.numbers.push((key.to_string(), value.parse().ok()?)),
@@ -131,6 +174,26 @@ fn parse_step(line: &str) -> Option<Step> {
         }
     }
     Some(step)
+}
+
+/// What stands behind `#`, or what goes without saying.
+struct Note {
+    time: u64,
+    wake: usize,
+    bytes: usize,
+}
+
+fn parse_note(text: &str) -> Option<Note> {
+    let mut note = Note { time: 0, wake: WAKE_CELLS, bytes: PICTURE_BYTES };
+    let words: Vec<&str> = text.split_whitespace().collect();
+    match words[..] {
+        [] => {}
+        ["time", time] => note.time = time.parse().ok()?,
+        ["wake", cells] => note.wake = cells.parse().ok()?,
+        ["buffer", bytes] => note.bytes = bytes.parse().ok()?,
+        _ => return None,
+    }
+    Some(note)
 }
 
 fn parse_woken(word: &str) -> Option<Report> {
@@ -142,9 +205,10 @@ fn parse_woken(word: &str) -> Option<Report> {
     }
 }
 
-fn parse_call(words: &[&str]) -> Option<(Call, Option<usize>)> {
-    let wake = WAKE_CELLS;
+fn parse_call(words: &[&str], note: &Note) -> Option<(Call, Option<usize>)> {
+    let wake = note.wake;
     let n = |at: usize| words.get(at)?.parse::<u32>().ok();
+    let long = |at: usize| words.get(at)?.parse::<u64>().ok();
     let plain = match *words.first()? {
         "sem" => Call::Sem { count: n(1)?, max: n(2)? },
         "mutex" => Call::Mutex { owner: n(1)?, count: n(2)? },
@@ -159,14 +223,15 @@ fn parse_call(words: &[&str]) -> Option<(Call, Option<usize>)> {
         "readmutex" => Call::ReadMutex { handle: n(1)? },
         "readevent" => Call::ReadEvent { handle: n(1)? },
         "close" => Call::Close { handle: n(1)? },
-        "cancel" => Call::Cancel { ticket: words.get(1)?.parse().ok()? },
-        "any" | "all" => return Some((parse_wait(words, 0, 0, &words[4..])?, None)),
+        "expire" => Call::Expire { clock: n(1)?, time: long(2)?, wake },
+        "cancel" => Call::Cancel { ticket: long(1)? },
+        "picture" => Call::Picture { bytes: note.bytes },
+        "any" | "all" => parse_wait(words, [0, 0], note.time, words.get(4..)?)?,
         "raw" => {
-            let call = parse_wait(&words[1..], n(5)?, n(6)?, &words[8..])?;
+            let call = parse_wait(&words[1..], [n(5)?, n(6)?], note.time, words.get(8..)?)?;
             let length = n(7)? as usize;
-            let written = if let Call::Wait { ref list, .. } = call { list.len() } else { 0 };
             return match length {
-                _ if length == written => Some((call, None)),
+                _ if length == call.listed().len() => Some((call, None)),
                 _ if length > LIST => Some((call, Some(length))),
                 _ => None,
             };
@@ -189,7 +254,7 @@ fn parse_handles(word: &str) -> Option<Vec<u32>> {
 }
 
 /// `words`: mode, owner, alert, timeout.
-fn parse_wait(words: &[&str], flags: u32, pad: u32, handles: &[&str]) -> Option<Call> {
+fn parse_wait(words: &[&str], [flags, pad]: [u32; 2], time: u64, handles: &[&str]) -> Option<Call> {
     let mode = match *words.first()? {
         "any" => Mode::Any,
         "all" => Mode::All,
@@ -204,5 +269,5 @@ fn parse_wait(words: &[&str], flags: u32, pad: u32, handles: &[&str]) -> Option<
         list.extend(parse_handles(word)?);
     }
     let (owner, alert) = (words.get(1)?.parse().ok()?, words.get(2)?.parse().ok()?);
-    Some(Call::Wait { mode, list, owner, alert, flags, pad, timeout, time: TIME })
+    Some(Call::Wait { mode, list, owner, alert, flags, pad, timeout, time })
 }

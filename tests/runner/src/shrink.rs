@@ -1,0 +1,130 @@
+//! Makes a failing history smaller while a difference remains, until nothing more can go.
+
+use crate::history::History;
+use crate::script::history_text;
+use second_model::{Call, Slip, NEVER};
+
+/// The shrunk history, and it as a script.
+pub fn shrunk(history: History, slip: Option<Slip>) -> (History, String) {
+    let history = shrink(history, slip);
+    let script = history_text(&history, slip);
+    (history, script)
+}
+
+fn shrink(mut history: History, slip: Option<Slip>) -> History {
+    loop {
+        let before = history.clone();
+        history = failing(History { next: 1, ..history.clone() }, slip).unwrap_or(history);
+        history = drop_runs(history, slip);
+        history = drop_creates(history, slip);
+        history = shorten_lists(history, slip);
+        history = plainer_waits(history, slip);
+        if history == before {
+            return history;
+        }
+    }
+}
+
+/// The calls up to the first difference, if there is one.
+fn failing(mut history: History, slip: Option<Slip>) -> Option<History> {
+    let (last, _) = history.first_difference(slip)?;
+    history.calls.truncate(last + 1);
+    Some(history)
+}
+
+/// The history once `change` is made to its calls, if a difference remains.
+fn changed(history: &History, slip: Option<Slip>, change: impl FnOnce(&mut Vec<Call>)) -> Option<History> {
+    let mut other = history.clone();
+    change(&mut other.calls);
+    failing(other, slip)
+}
+
+/// Drops runs of calls, ever shorter.
+fn drop_runs(mut history: History, slip: Option<Slip>) -> History {
+    let mut run = history.calls.len().div_ceil(2);
+    while run > 0 {
+        let mut at = 0;
+        while at < history.calls.len() {
+            let end = (at + run).min(history.calls.len());
+            match changed(&history, slip, |calls| drop(calls.drain(at..end))) {
+                Some(fewer) => history = fewer,
+                None => at += run,
+            }
+        }
+        run /= 2;
+    }
+    history
+}
+
+/// Drops a creation and moves the handles above it down.
+fn drop_creates(mut history: History, slip: Option<Slip>) -> History {
+    let (mut at, mut created) = (0, 0);
+    while at < history.calls.len() {
+        if !matches!(history.calls[at], Call::Sem { .. } | Call::Mutex { .. } | Call::Event { .. }) {
+            at += 1;
+            continue;
+        }
+        let fewer = changed(&history, slip, |calls| {
+            calls.remove(at);
+            calls.iter_mut().for_each(|call| move_down(call, created + 1));
+        });
+        match fewer {
+            Some(fewer) => history = fewer,
+            None => (at, created) = (at + 1, created + 1),
+        }
+    }
+    history
+}
+
+fn move_down(call: &mut Call, above: u32) {
+    let lower = |handle: &mut u32| *handle -= u32::from(*handle > above);
+    if let Call::Wait { list, alert, .. } = call {
+        list.iter_mut().for_each(lower);
+        lower(alert);
+    } else if let Some(handle) = call.handle_mut() {
+        lower(handle);
+    }
+}
+
+fn shorten_lists(mut history: History, slip: Option<Slip>) -> History {
+    for at in (0..history.calls.len()).rev() {
+        let mut index = 0;
+        while at < history.calls.len() && index < history.calls[at].listed().len() {
+            let fewer = changed(&history, slip, |calls| {
+                if let Call::Wait { list, .. } = &mut calls[at] {
+                    list.remove(index);
+                }
+            });
+            match fewer {
+                Some(fewer) => history = fewer,
+                None => index += 1,
+            }
+        }
+    }
+    history
+}
+
+/// Waits on the monotonic clock at time 0, for ever, without alert.
+fn plainer_waits(mut history: History, slip: Option<Slip>) -> History {
+    let plain: [fn(&mut Call); 4] = [
+        |call| wait_numbers(call, |_, flags, _, _| *flags = 0),
+        |call| wait_numbers(call, |_, _, _, time| *time = 0),
+        |call| wait_numbers(call, |_, _, timeout, _| *timeout = NEVER),
+        |call| wait_numbers(call, |alert, _, _, _| *alert = 0),
+    ];
+    for at in (0..history.calls.len()).rev() {
+        for plainer in plain {
+            if at < history.calls.len() {
+                history = changed(&history, slip, |calls| plainer(&mut calls[at])).unwrap_or(history);
+            }
+        }
+    }
+    history
+}
+
+/// Changes alert, flags, timeout or time, if the call is a wait.
+fn wait_numbers(call: &mut Call, change: impl FnOnce(&mut u32, &mut u32, &mut u64, &mut u64)) {
+    if let Call::Wait { alert, flags, timeout, time, .. } = call {
+        change(alert, flags, timeout, time);
+    }
+}
