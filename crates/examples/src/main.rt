@@ -16,13 +16,13 @@ mod full;
 mod limits;
 mod making;
 mod memory;
-mod picture;
 mod print;
 mod queued;
 mod queues;
 mod readings;
 mod refused;
 mod slips;
+mod snapshots;
 mod waiting;
 mod wakes;
 mod woken;
@@ -44,5 +44,5 @@ fn main() {
     refused::wake_lists(&mut t);
     refused::changes(&mut t);
     fronts::cases(&mut t);
-    picture::cases(&mut t);
+    snapshots::cases(&mut t);
 }

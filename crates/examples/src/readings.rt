@@ -14,8 +14,8 @@ fn begin(t: &mut Cells, name: &[u8]) {
     ntsync::init(t);
 }
 
-// The tables whose picture document 01 shows.
-fn pictured(t: &mut Cells) {
+// The tables whose snapshot document 01 shows.
+pub fn put_shown(t: &mut Cells) {
     asked::create_semaphore(t, 1, 2);
     asked::create_event(t, 0, 1);
     waiting::all(t, &[1, 2], 7);
@@ -23,11 +23,11 @@ fn pictured(t: &mut Cells) {
 
 fn all_queued(t: &mut Cells) {
     begin(t, b"P1");
-    pictured(t);
+    put_shown(t);
     asked::read_semaphore(t, 1);
     asked::read_event(t, 2);
     begin(t, b"P2");
-    pictured(t);
+    put_shown(t);
     woken::set(t, 2);
     asked::read_semaphore(t, 1);
     asked::read_event(t, 2);

@@ -2,8 +2,8 @@
 // index) for each, whether a cell of the tables changed, and whether the wake list behind the records was left.
 ghost use mathlib.Core.Path.{_≡_};
 ghost use mathlib.Core.Bool.{true};
-ghost use lib.ListN.{length, getD};
-ghost use Prim.Native.Nat.{ℕ, _≤_, _<_};
+ghost use mathlib.Core.Logic.{_↔_};
+ghost use Rattle.examples.specs.Kept.{Kept};
 use crate::memory;
 use crate::memory::Cells;
 use crate::print;
@@ -40,8 +40,7 @@ fn records(wake: &WakeList, woken: u32) {
 
 // Whether every cell from `from` on holds UNTOUCHED.
 fn is_untouched(wake: &[u64], from: usize) -> bool
-    ensures kept { λ r. ⌜ (r ≡ true → (k : ℕ) → k < length (now (wake .entry)) → from ≤ k → getD (now (wake .entry)) k 0 ≡ 777) ⌝ }
-    ensures altered { λ r. ⌜ (((k : ℕ) → k < length (now (wake .entry)) → from ≤ k → getD (now (wake .entry)) k 0 ≡ 777) → r ≡ true) ⌝ }
+    ensures { λ r. ⌜ (r ≡ true) ↔ Kept 777 (now (wake .entry)) from ⌝ }
 {
     let mut i = from;
     while i < wake.len() {

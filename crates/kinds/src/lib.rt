@@ -235,8 +235,7 @@ impl Object {
             return self;
         }
         if kind == Event::KIND {
-            let manual = self.attribute;
-            if manual == 0 {
+            if self.attribute == 0 {
                 return Object {
                     kind: Event::KIND,
                     count: 0,
@@ -244,7 +243,6 @@ impl Object {
                     attribute: 0,
                 };
             }
-            return self;
         }
         self
     }

@@ -18,6 +18,17 @@ pub struct Waited {
     pub ticket: u64,
 }
 
+// A wait that is neither served nor queued has no number beside its answer.
+fn ended(answer: u32) -> Waited
+    ensures { λ r. ⌜ r ≡ record { answer = answer; index = 0; ticket = 0 } ⌝ }
+{
+    Waited {
+        answer,
+        index: 0,
+        ticket: 0,
+    }
+}
+
 fn bad_wait(
     t: &[u64],
     mode: u64,
@@ -59,27 +70,15 @@ fn later(
 {
     let up = attempt::time_up(timeout, time);
     if up {
-        return Waited {
-            answer: 5,
-            index: 0,
-            ticket: 0,
-        };
+        return ended(5);
     }
     let p = tables::ticket_place(t, 0);
     if tables::WAIT_PLACES <= p {
-        return Waited {
-            answer: 7,
-            index: 0,
-            ticket: 0,
-        };
+        return ended(7);
     }
     let ticket = tables::next_ticket(t);
     if ticket == SPENT {
-        return Waited {
-            answer: 8,
-            index: 0,
-            ticket: 0,
-        };
+        return ended(8);
     }
     tables::queue(t, p, mode, list, asking, flags, alert, timeout);
     Waited {
@@ -144,20 +143,12 @@ pub fn wait(
 {
     let n = list.len();
     if tables::MAX_LISTED < n {
-        return Waited {
-            answer: 1,
-            index: 0,
-            ticket: 0,
-        };
+        return ended(1);
     }
     let wide = widen(list);
     let bad = bad_wait(t, mode, &wide[..n], asking, flags, pad, alert);
     if bad {
-        return Waited {
-            answer: 1,
-            index: 0,
-            ticket: 0,
-        };
+        return ended(1);
     }
     act(t, mode, &wide[..n], asking, flags, alert, timeout, time)
 }

@@ -12,27 +12,21 @@ use Rattle.waits.proofs.act.Lts as lts
 use Rattle.attempt.proofs.try_list.Reads as try-list-reads
 use Rattle.waits.proofs.later.Reads as later-reads
 
--- src/lib.rt:117:9
 try-list-requires : tie.Need-try-list-requires
 try-list-requires c κs = search needs
 
--- src/lib.rt:119:9
 same-length : tie.Need-same-length
 same-length c = search needs
 
--- src/lib.rt:119:9
 returns : tie.Need-returns
 returns c = let a = c .before .before .before .before .before .before .before .args in act-served (a .t .now) (a .mode) (a .list .now) (a .asking) (a .flags) (a .alert) (a .timeout) (a .time) (lend [] []) _ (c .before .before .before .try-list .ensures) (c .if1 .taken)
 
--- src/lib.rt:125:5
 later-requires : tie.Need-later-requires
 later-requires c κs = search needs
 
--- src/lib.rt:104:1
 same-length-2 : tie.Need-same-length-2
 same-length-2 c = search needs
 
--- src/lib.rt:104:1
 returns-2 : tie.Need-returns-2
 returns-2 c = let a = c .before .before .before .before .before .before .before .before .before .before .before .args in act-later (a .t .now) (a .mode) (a .list .now) (a .asking) (a .flags) (a .alert) (a .timeout) (a .time) (lend [] []) _ (c .before .before .before .before .before .before .before .try-list .ensures) (c .before .before .before .before .if1 .left) _ (c .before .before .later .ensures)
 

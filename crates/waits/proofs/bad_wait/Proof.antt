@@ -9,19 +9,15 @@ use Rattle.validity.proofs.is_event.Reads as is-event-reads
 use Rattle.validity.proofs.proper_list.Reads as proper-list-reads
 use Rattle.validity.proofs.too_few.Reads as too-few-reads
 
--- src/lib.rt:34:9
 too-few-requires : tie.Need-too-few-requires
 too-few-requires c κs = search needs
 
--- src/lib.rt:35:9
 is-event-requires : tie.Need-is-event-requires
 is-event-requires c κs = search needs
 
--- src/lib.rt:36:9
 proper-list-requires : tie.Need-proper-list-requires
 proper-list-requires c κs = search needs
 
--- src/lib.rt:21:1
 returns : tie.Need-returns
 returns c = let a = c .before .before .before .before .before .args in bad-is (a .t .now) (a .mode) (a .list .now) (a .asking) (a .flags) (a .pad) (a .alert) (c .before .before .too-few .ensures) (c .before .is-event .ensures) (c .proper-list .ensures)
 

@@ -8,52 +8,51 @@ use Rattle.waits.proofs.later.Statement.{statement}
 use Rattle.waits.proofs.later.Tie as tie
 use Rattle.waits.proofs.later.Reads as reads
 use Rattle.waits.proofs.later.Lts as lts
+use Rattle.waits.proofs.ended.Reads as ended-reads
 use Rattle.tables.proofs.next_ticket.Reads as next-ticket-reads
 use Rattle.tables.proofs.queue.Reads as queue-reads
 use Rattle.tables.proofs.ticket_place.Reads as ticket-place-reads
 use Rattle.attempt.proofs.time_up.Reads as time-up-reads
 
--- src/lib.rt:71:9
 time-up-requires : tie.Need-time-up-requires
 time-up-requires c κs = search needs
 
--- src/lib.rt:73:9
-returns : tie.Need-returns
-returns c = let a = c .before .before .before .before .args in later-up (a .t .now) (a .mode) (a .list .now) (a .asking) (a .flags) (a .alert) (a .timeout) (a .time) (lend [] []) (c .before .time-up .ensures) (c .if1 .taken)
+ended-requires : tie.Need-ended-requires
+ended-requires c κs = search needs
 
--- src/lib.rt:79:9
+returns : tie.Need-returns
+returns c = let a = c .before .before .before .before .before .args in rw (c .ended .ensures) (later-up (a .t .now) (a .mode) (a .list .now) (a .asking) (a .flags) (a .alert) (a .timeout) (a .time) (lend [] []) (c .before .before .time-up .ensures) (c .before .if1 .taken))
+
 ticket-place-requires : tie.Need-ticket-place-requires
 ticket-place-requires c κs = search needs
 
--- src/lib.rt:81:9
+ended-requires-2 : tie.Need-ended-requires-2
+ended-requires-2 c κs = search needs
+
 same-length : tie.Need-same-length
 same-length c = search needs
 
--- src/lib.rt:81:9
 returns-2 : tie.Need-returns-2
-returns-2 c = let a = c .before .before .before .before .before .before .before .args in later-full (a .t .now) (a .mode) (a .list .now) (a .asking) (a .flags) (a .alert) (a .timeout) (a .time) (lend [] []) (c .before .before .before .before .time-up .ensures) (c .before .before .before .if1 .left) (c .before .ticket-place .ensures) (c .if2 .taken)
+returns-2 c = let a = c .before .before .before .before .before .before .before .before .args in rw (c .ended2 .ensures) (later-full (a .t .now) (a .mode) (a .list .now) (a .asking) (a .flags) (a .alert) (a .timeout) (a .time) (lend [] []) (c .before .before .before .before .before .time-up .ensures) (c .before .before .before .before .if1 .left) (c .before .before .ticket-place .ensures) (c .before .if2 .taken))
 
--- src/lib.rt:87:9
 next-ticket-requires : tie.Need-next-ticket-requires
 next-ticket-requires c κs = search needs
 
--- src/lib.rt:89:9
+ended-requires-3 : tie.Need-ended-requires-3
+ended-requires-3 c κs = search needs
+
 same-length-2 : tie.Need-same-length-2
 same-length-2 c = search needs
 
--- src/lib.rt:89:9
 returns-3 : tie.Need-returns-3
-returns-3 c = let a = c .before .before .before .before .before .before .before .before .before .before .args in later-spent (a .t .now) (a .mode) (a .list .now) (a .asking) (a .flags) (a .alert) (a .timeout) (a .time) (lend [] []) (c .before .before .before .before .before .before .before .time-up .ensures) (c .before .before .before .before .before .before .if1 .left) (c .before .before .before .before .ticket-place .ensures) (c .before .before .before .if2 .left) (c .before .next-ticket .ensures) (c .if3 .taken)
+returns-3 c = let a = c .before .before .before .before .before .before .before .before .before .before .before .args in rw (c .ended3 .ensures) (later-spent (a .t .now) (a .mode) (a .list .now) (a .asking) (a .flags) (a .alert) (a .timeout) (a .time) (lend [] []) (c .before .before .before .before .before .before .before .before .time-up .ensures) (c .before .before .before .before .before .before .before .if1 .left) (c .before .before .before .before .before .ticket-place .ensures) (c .before .before .before .before .if2 .left) (c .before .before .next-ticket .ensures) (c .before .if3 .taken))
 
--- src/lib.rt:95:5
 queue-requires : tie.Need-queue-requires
 queue-requires c κs = let e = c .before .before .next-ticket .ensures in let k = c .before .if3 .left in let b = c .before .before .before .before .before .before .before .before .before .before .slice-known .given 0 in (c .before .before .before .before .if2 .left, c .before .before .before .before .before .before .before .before .before .before .before .pre .0, c .before .before .before .before .before .before .before .before .before .before .before .pre .1, rw (sym e) (omega (arith, k, b)))
 
--- src/lib.rt:58:1
 same-length-3 : tie.Need-same-length-3
 same-length-3 c = search needs
 
--- src/lib.rt:58:1
 returns-4 : tie.Need-returns-4
 returns-4 c = let a = c .before .before .before .before .before .before .before .before .before .before .before .before .before .before .args in later-queued (a .t .now) (a .mode) (a .list .now) (a .asking) (a .flags) (a .alert) (a .timeout) (a .time) (lend [] []) (c .before .before .before .before .before .before .before .before .before .before .before .time-up .ensures) (c .before .before .before .before .before .before .before .before .before .before .if1 .left) (c .before .before .before .before .before .before .before .before .ticket-place .ensures) (c .before .before .before .before .before .before .before .if2 .left) (c .before .before .before .before .before .next-ticket .ensures) (omega (arith, c .before .before .before .before .if3 .left)) (c .before .before .queue .ensures)
 
@@ -62,11 +61,14 @@ later-spec =
     tie.close
     (tie.spec
     time-up-requires
+    ended-requires
     returns
     ticket-place-requires
+    ended-requires-2
     same-length
     returns-2
     next-ticket-requires
+    ended-requires-3
     same-length-2
     returns-3
     queue-requires

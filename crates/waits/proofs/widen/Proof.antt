@@ -17,43 +17,33 @@ Inv-loop list wide₀ i₀ wide i = (i ≤ length list) × (length wide ≡ maxL
 abbrev μ-loop : tie.MeasureT-loop
 μ-loop list wide₀ i₀ wide i = length list - i
 
--- src/lib.rt:135:5
 loop-holds : tie.Need-loop-holds Inv-loop μ-loop
 loop-holds c = (search needs, refl, refl)
 
--- src/lib.rt:136:19
 mul-wide : tie.Need-mul-wide Inv-loop μ-loop
 mul-wide c = search needs
 
--- src/lib.rt:136:19
 shared-slice-read-wide : tie.Need-shared-slice-read-wide Inv-loop μ-loop
 shared-slice-read-wide c = search needs
 
--- src/lib.rt:136:19
 cast-wide : tie.Need-cast-wide Inv-loop μ-loop
 cast-wide c = omega (arith, c .shared-slice-known .given (c .before .before .loop .i))
 
--- src/lib.rt:136:9
 mul-wide-2 : tie.Need-mul-wide-2 Inv-loop μ-loop
 mul-wide-2 c = search needs
 
--- src/lib.rt:136:9
 array-write-wide : tie.Need-array-write-wide Inv-loop μ-loop
 array-write-wide c = search needs
 
--- src/lib.rt:137:9
 add-i : tie.Need-add-i Inv-loop μ-loop
 add-i c = search needs
 
--- src/lib.rt:135:5
 loop-less : tie.Need-loop-less Inv-loop μ-loop
 loop-less c = search needs
 
--- src/lib.rt:135:5
 loop-again : tie.Need-loop-again Inv-loop μ-loop
 loop-again c = (search needs, simp length-set (omega arith), copied (c .before .before .loop .wide) (c .before .before .before .args .list .now) (c .before .before .loop .i) (c .before .before .loop .inv .2) (omega arith) (omega arith))
 
--- src/lib.rt:129:1
 returns : tie.Need-returns Inv-loop μ-loop
 returns c = let l = c .before .before .args .list .now in let e : c .before .loop .i ≡ length l = omega arith in (c .before .loop .inv .1, rw e at (c .before .loop .inv .2) ∙ take-length l)
 

@@ -1,38 +1,21 @@
--- `examples::woken::is_untouched` meets its contract.
--- The invariant of its loop: every cell from `from` on and below i holds 777.
--- Assumes nothing.
-use mathlib.Core.Path.{_≡_, refl, sym, subst}
-use mathlib.Core.Bool.{true, false}
-use mathlib.Core.List.{List}
-use Prim.Native.Nat.{ℕ, _≤_, _<_, _-_}
-use native.Mathlib.Nat.{lt-irrefl, lt-of-lt-of-le, le-refl}
-use native.Mathlib.Omega.{arith}
-use lib.Dec.{T}
-use lib.ListN.{length, getD}
-use denote.Ref.{now}
+-- `examples::woken::is_untouched` meets its contract: the search of `Laws`, at the number 777.
+use Prim.Native.Nat.{_-_}
+use lib.ListN.{length}
 use borrow.Author.Needs.{needs}
-use borrow.Author.Count.{below-more}
+use Rattle.examples.proofs.Laws.{Passed, passed-none, passed-more, all-kept, one-altered}
 use Rattle.examples.proofs.woken.is_untouched.Statement.{statement}
 use Rattle.examples.proofs.woken.is_untouched.Tie as tie
 use Rattle.examples.proofs.woken.is_untouched.Reads as reads
 use Rattle.examples.proofs.woken.is_untouched.Lts as lts
 
-abbrev Kept : List ℕ → ℕ → ℕ → Type 0
-Kept wake from k = from ≤ k → getD wake k 0 ≡ 777
+abbrev Inv-loop : tie.InvT-loop
+Inv-loop wake from i₀ i = Passed 777 wake from i
 
-Inv-loop : tie.InvT-loop
-Inv-loop wake from i₀ i = ((k : ℕ) → k < i → Kept wake from k) × (from ≤ i)
-
-μ-loop : tie.MeasureT-loop
+abbrev μ-loop : tie.MeasureT-loop
 μ-loop wake from i₀ i = length wake - i
 
-never : {X : Type 0} → false ≡ true → X
-never e = absurd (subst T (sym e) tt)
-
--- no index below `from` is asked about
 loop-holds : tie.Need-loop-holds Inv-loop μ-loop
-unfolding Inv-loop
-loop-holds c = ((λ k below above. absurd (lt-irrefl _ (lt-of-lt-of-le below above))), le-refl _)
+loop-holds c = passed-none
 
 mul-if1 : tie.Need-mul-if1 Inv-loop μ-loop
 mul-if1 c = search needs
@@ -40,32 +23,20 @@ mul-if1 c = search needs
 shared-slice-read-if1 : tie.Need-shared-slice-read-if1 Inv-loop μ-loop
 shared-slice-read-if1 c = search needs
 
--- a cell from `from` on holds another number: the result is false
 returns : tie.Need-returns Inv-loop μ-loop
-unfolding Inv-loop
-returns c =
-    let at-loop-test = c .before .before in
-    let at-loop = at-loop-test .before in
-    ((λ e. never e), (λ kept. absurd ((c .if1 .taken) (kept (at-loop .loop .i) (at-loop-test .loop-test .taken) (at-loop .loop .inv .1)))))
+returns c = one-altered (c .before .before .before .loop .inv) (c .before .before .loop-test .taken) (c .if1 .taken)
 
 add-i : tie.Need-add-i Inv-loop μ-loop
 add-i c = search needs
 
 loop-less : tie.Need-loop-less Inv-loop μ-loop
-unfolding μ-loop
 loop-less c = search needs
 
 loop-again : tie.Need-loop-again Inv-loop μ-loop
-unfolding Inv-loop
-loop-again c =
-    let at-loop = c .before .before .before in
-    let at-start = at-loop .before in
-    (below-more (Kept (now (at-start .args .wake)) (at-start .args .from)) (at-loop .loop .i) (at-loop .loop .inv .0) (λ above. c .if1 .left), omega arith)
+loop-again c = passed-more (c .before .before .before .loop .inv) (c .if1 .left)
 
--- i is not below the length: every cell from `from` on was looked at
 returns-2 : tie.Need-returns-2 Inv-loop μ-loop
-unfolding Inv-loop
-returns-2 c = ((λ e k below above. c .before .loop .inv .0 k (lt-of-lt-of-le below (c .loop-test .left)) above), (λ kept. refl))
+returns-2 c = all-kept (c .before .loop .inv) (c .loop-test .left)
 
 pub is-untouched-spec : {M : Type 1} → statement M
 is-untouched-spec =

@@ -1,5 +1,4 @@
 use mathlib.Core.Path.{refl}
-use native.Mathlib.Omega.{arith}
 use borrow.Author.Needs.{needs}
 use Rattle.kinds.proofs.Event.create.Statement.{statement}
 use Rattle.kinds.proofs.Event.create.Tie as tie
@@ -8,19 +7,15 @@ use Rattle.kinds.proofs.Event.create.Lts as lts
 use Rattle.kinds.proofs.Event.object.Reads as object-reads
 use Rattle.kinds.proofs.flag.Reads as flag-reads
 
--- src/lib.rt:134:23
 flag-requires : tie.Need-flag-requires
 flag-requires c κs = search needs
 
--- src/lib.rt:135:21
 flag-requires-2 : tie.Need-flag-requires-2
 flag-requires-2 c κs = search needs
 
--- src/lib.rt:137:13
 object-requires : tie.Need-object-requires
 object-requires c κs = search needs
 
--- src/lib.rt:129:5
 returns : tie.Need-returns
 returns c = (refl, rw (c .before .before .flag .ensures, c .before .flag2 .ensures) at (c .object .ensures))
 

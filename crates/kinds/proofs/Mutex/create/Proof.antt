@@ -1,6 +1,5 @@
 use mathlib.Core.Path.{_∙_, sym, ap}
 use Rattle.model.proofs.Logic.{not-twice}
-use native.Mathlib.Omega.{arith}
 use borrow.Author.Needs.{needs}
 use Rattle.kinds.proofs.Mutex.create.Statement.{statement}
 use Rattle.kinds.proofs.Mutex.create.Tie as tie
@@ -9,19 +8,15 @@ use Rattle.kinds.proofs.Mutex.create.Lts as lts
 use Rattle.kinds.proofs.Mutex.object.Reads as object-reads
 use Rattle.kinds.proofs.zero_flag.Reads as zero-flag-reads
 
--- src/lib.rt:101:13
 object-requires : tie.Need-object-requires
 object-requires c κs = search needs
 
--- src/lib.rt:103:17
 zero-flag-requires : tie.Need-zero-flag-requires
 zero-flag-requires c κs = search needs
 
--- src/lib.rt:103:37
 zero-flag-requires-2 : tie.Need-zero-flag-requires-2
 zero-flag-requires-2 c κs = search needs
 
--- src/lib.rt:93:5
 returns : tie.Need-returns
 returns c = (rw (c .before .zero-flag .ensures, c .zero-flag2 .ensures) (not-twice _), c .before .before .object .ensures)
 

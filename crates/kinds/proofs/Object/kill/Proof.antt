@@ -1,8 +1,6 @@
 use Rattle.kinds.specs.Values.{cellsOf}
 use Rattle.kinds.proofs.Laws.{held-refused, held-done}
 use Rattle.cells.specs.Objects.{killFields}
-use Rattle.cells.proofs.Tests.{tests}
-use native.Mathlib.Omega.{arith}
 use borrow.Author.Needs.{needs}
 use Rattle.kinds.proofs.Object.kill.Statement.{statement}
 use Rattle.kinds.proofs.Object.kill.Tie as tie
@@ -10,16 +8,13 @@ use Rattle.kinds.proofs.Object.kill.Reads as reads
 use Rattle.kinds.proofs.Object.kill.Lts as lts
 use Rattle.kinds.proofs.Object.held_by.Reads as held-by-reads
 
--- src/lib.rt:340:13
 held-by-requires : tie.Need-held-by-requires
 held-by-requires c κs = search needs
 
--- src/lib.rt:342:13
 returns : tie.Need-returns
 unfolding killFields
 returns c = held-refused (c .before .before .args .asking) _ _ (c .before .held-by .ensures) (c .if1 .taken)
 
--- src/lib.rt:337:5
 returns-2 : tie.Need-returns-2
 unfolding killFields
 returns-2 c = held-done (c .before .before .args .asking) (cellsOf (c .before .before .args .self)) _ (c .before .held-by .ensures) (c .if1 .left)

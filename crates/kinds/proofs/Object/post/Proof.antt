@@ -1,31 +1,26 @@
+use mathlib.Core.Path.{refl}
 use Rattle.kinds.proofs.Laws.{post-low, post-over, post-done}
 use Rattle.cells.specs.Objects.{postFields}
-use Rattle.cells.proofs.Tests.{tests}
-use native.Mathlib.Omega.{arith}
+use borrow.Author.Tests.{ne-eqb}
 use borrow.Author.Needs.{needs}
 use Rattle.kinds.proofs.Object.post.Statement.{statement}
 use Rattle.kinds.proofs.Object.post.Tie as tie
 use Rattle.kinds.proofs.Object.post.Reads as reads
 use Rattle.kinds.proofs.Object.post.Lts as lts
 
--- src/lib.rt:260:13
 returns : tie.Need-returns
 unfolding postFields
-returns c = search tests
+returns c = rw (ne-eqb _ 1 (c .if1 .taken)) refl
 
--- src/lib.rt:266:13
 returns-2 : tie.Need-returns-2
 returns-2 c = post-low (c .before .before .args .add) (c .before .if1 .left) (c .if2 .taken)
 
--- src/lib.rt:272:13
 returns-3 : tie.Need-returns-3
 returns-3 c = post-over (c .before .before .before .args .add) (c .before .before .if1 .left) (c .before .if2 .left) (c .if3 .taken)
 
--- src/lib.rt:281:24
 add-t7 : tie.Need-add-t7
 add-t7 c = search needs
 
--- src/lib.rt:253:5
 returns-4 : tie.Need-returns-4
 returns-4 c = post-done (c .before .before .before .args .add) (c .before .before .if1 .left) (c .before .if2 .left) (c .if3 .left)
 

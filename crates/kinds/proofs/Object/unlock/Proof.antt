@@ -1,8 +1,6 @@
 use Rattle.kinds.specs.Values.{cellsOf}
 use Rattle.kinds.proofs.Laws.{held-refused, unlock-last, unlock-more}
 use Rattle.cells.specs.Objects.{unlockFields}
-use Rattle.cells.proofs.Tests.{tests}
-use native.Mathlib.Omega.{arith}
 use borrow.Author.Needs.{needs}
 use Rattle.kinds.proofs.Object.unlock.Statement.{statement}
 use Rattle.kinds.proofs.Object.unlock.Tie as tie
@@ -11,28 +9,22 @@ use Rattle.kinds.proofs.Object.unlock.Lts as lts
 use Rattle.kinds.proofs.Object.held_by.Reads as held-by-reads
 use Rattle.kinds.proofs.left_owner.Reads as left-owner-reads
 
--- src/lib.rt:309:13
 held-by-requires : tie.Need-held-by-requires
 held-by-requires c κs = search needs
 
--- src/lib.rt:311:13
 returns : tie.Need-returns
 unfolding unlockFields
 returns c = held-refused (c .before .before .args .asking) _ _ (c .before .held-by .ensures) (c .if1 .taken)
 
--- src/lib.rt:321:28
 left-owner-requires : tie.Need-left-owner-requires
 left-owner-requires c κs = search needs
 
--- src/lib.rt:316:13
 returns-2 : tie.Need-returns-2
 returns-2 c = unlock-last (c .before .before .before .before .args .asking) (cellsOf (c .before .before .before .before .args .self)) (c .before .before .before .held-by .ensures) (c .before .before .if1 .left) (c .before .if2 .taken) (c .left-owner .ensures)
 
--- src/lib.rt:330:24
 sub-t9 : tie.Need-sub-t9
 sub-t9 c = search needs
 
--- src/lib.rt:306:5
 returns-3 : tie.Need-returns-3
 returns-3 c = unlock-more (c .before .before .before .args .asking) (cellsOf (c .before .before .before .args .self)) (c .before .before .held-by .ensures) (c .before .if1 .left) (c .if2 .left)
 

@@ -1,5 +1,4 @@
 use Rattle.kinds.proofs.Laws.{not-more}
-use native.Mathlib.Omega.{arith}
 use borrow.Author.Needs.{needs}
 use Rattle.kinds.proofs.Semaphore.create.Statement.{statement}
 use Rattle.kinds.proofs.Semaphore.create.Tie as tie
@@ -7,11 +6,9 @@ use Rattle.kinds.proofs.Semaphore.create.Reads as reads
 use Rattle.kinds.proofs.Semaphore.create.Lts as lts
 use Rattle.kinds.proofs.Semaphore.object.Reads as object-reads
 
--- src/lib.rt:62:13
 object-requires : tie.Need-object-requires
 object-requires c κs = search needs
 
--- src/lib.rt:54:5
 returns : tie.Need-returns
 returns c = (not-more (c .before .args .count) (c .before .args .max), c .object .ensures)
 

@@ -1,10 +1,10 @@
 use native.Mathlib.Omega.{arith}
 use borrow.Author.Needs.{needs}
 use Prim.Native.Nat.{ℕ, _≤_, _-_}
-use Rattle.examples.proofs.picture.create_mutexes.Statement.{statement}
-use Rattle.examples.proofs.picture.create_mutexes.Tie as tie
-use Rattle.examples.proofs.picture.create_mutexes.Reads as reads
-use Rattle.examples.proofs.picture.create_mutexes.Lts as lts
+use Rattle.examples.proofs.snapshots.create_mutexes.Statement.{statement}
+use Rattle.examples.proofs.snapshots.create_mutexes.Tie as tie
+use Rattle.examples.proofs.snapshots.create_mutexes.Reads as reads
+use Rattle.examples.proofs.snapshots.create_mutexes.Lts as lts
 use Rattle.ntsync.proofs.create_mutex.Reads as create-mutex-reads
 
 abbrev Inv-loop : tie.InvT-loop

@@ -2,10 +2,10 @@
 use native.Mathlib.Omega.{arith}
 use borrow.Author.Needs.{needs}
 use Rattle.io.proofs.Counting.{front}
-use Rattle.examples.proofs.picture.front.Statement.{statement}
-use Rattle.examples.proofs.picture.front.Tie as tie
-use Rattle.examples.proofs.picture.front.Reads as reads
-use Rattle.examples.proofs.picture.front.Lts as lts
+use Rattle.examples.proofs.snapshots.front.Statement.{statement}
+use Rattle.examples.proofs.snapshots.front.Tie as tie
+use Rattle.examples.proofs.snapshots.front.Reads as reads
+use Rattle.examples.proofs.snapshots.front.Lts as lts
 use Rattle.examples.proofs.print.text.Reads as text-reads
 
 returns : tie.Need-returns

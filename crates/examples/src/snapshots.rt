@@ -1,15 +1,16 @@
-// The picture, which is the snapshot's text: its bytes, its length and the buffer behind it, and what is refused. Every buffer
-// is full of one byte before the call, so that a byte written past the text shows.
+// The snapshot's text (document 01: the picture): its bytes, its length and the buffer behind it, and what is refused. Every
+// buffer is full of one byte before the call, so that a byte written past the text shows.
 ghost use mathlib.Core.Path.{_≡_};
 ghost use mathlib.Core.Bool.{true};
-ghost use lib.ListN.{length, getD};
-ghost use Prim.Native.Nat.{ℕ, _≤_, _<_};
+ghost use mathlib.Core.Logic.{_↔_};
+ghost use Rattle.examples.specs.Kept.{Kept};
 use crate::asked;
 use crate::memory;
 use crate::memory::Cells;
 use crate::memory::TABLE_LENGTH;
 use crate::print;
 use crate::queues;
+use crate::readings;
 use crate::waiting;
 use crate::waiting::NEVER;
 use crate::woken;
@@ -27,8 +28,7 @@ const CEILING: u32 = 4294967295;
 
 // Whether every byte from `from` on is the sentinel.
 fn is_kept(buffer: &[u8], from: usize) -> bool
-    ensures kept { λ r. ⌜ (r ≡ true → (k : ℕ) → k < length (now (buffer .entry)) → from ≤ k → getD (now (buffer .entry)) k 0 ≡ 35) ⌝ }
-    ensures altered { λ r. ⌜ (((k : ℕ) → k < length (now (buffer .entry)) → from ≤ k → getD (now (buffer .entry)) k 0 ≡ 35) → r ≡ true) ⌝ }
+    ensures { λ r. ⌜ (r ≡ true) ↔ Kept 35 (now (buffer .entry)) from ⌝ }
 {
     let mut i = from;
     while i < buffer.len() {
@@ -92,9 +92,7 @@ fn next_ticket(t: &Cells) {
 // P1 of document 01, which gives the whole text.
 fn first_reading(t: &mut Cells) {
     ntsync::init(t);
-    asked::create_semaphore(t, 1, 2);
-    asked::create_event(t, 0, 1);
-    waiting::all(t, &[1, 2], 7);
+    readings::put_shown(t);
     shown(t);
 }
 
