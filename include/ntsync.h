@@ -1,19 +1,25 @@
-/* ntsync: NT semaphores, mutexes and events over tables that the host lends. Link with libntsync.a (hosts/build).
+/* ntsync: NT semaphores, mutexes and events over tables that the host lends. C99 or C++11 on x86-64; link with libntsync.a
+ * (hosts/build).
  *
  * The tables are NTSYNC_CELLS cells of the host's own memory; all state is in them. No function keeps anything between
  * calls, allocates, blocks or reads a clock. Waiting does not block: a wait is served, times out, or is queued under a
- * ticket, and a later call writes that ticket to the wake list that the host lends it.
+ * ticket, and a later call writes that ticket to the wake list that the host lends to that call.
+ *
+ * The cells are plain numbers without pointers. Between calls the tables may be copied, moved or saved, and a copy is tables
+ * of its own; saved cells have this machine's byte order. Functions that take const tables may be given read-only memory.
  *
  * The host owes what any C function is owed: pointers that are aligned, valid for their lengths and not null, not even for
  * a length of 0, and no overlap between what is lent for writing and anything else lent to the same call. Lengths are
- * numbers of elements; an array has at most PTRDIFF_MAX bytes. Nothing else has to be checked: every content, length,
- * handle, flag and time gets a stated answer. Two calls on the same tables must not run at the same time.
+ * numbers of elements; an array has at most PTRDIFF_MAX bytes. No two calls on the same tables may run at the same time, not
+ * from an interrupt or signal handler either; only functions that take const tables may. Calls on different tables, wake
+ * lists and buffers are independent. Nothing else has to be checked: every content, length, handle, flag and time gets a
+ * stated answer.
  *
  * Answers. NTSYNC_EINVAL, EPERM, EOVERFLOW, NO_ROOM, TICKETS_SPENT, CORRUPT, BUSY and LIST_SHORT are refusals: the call
- * altered nothing, and every number beside the answer is 0. Every call but ntsync_version and ntsync_init first answers
- * NTSYNC_CORRUPT if the tables are not NTSYNC_CELLS long or break a rule of docs/LAYOUT.md; then NTSYNC_LIST_SHORT if it is
- * lent too short a wake list or buffer; then what its comment says, in that order. A handle that is 0, unknown, closed or
- * of another kind of object is always NTSYNC_EINVAL. */
+ * altered nothing, and every number beside the answer is 0. Every call but ntsync_version and ntsync_init reads all cells
+ * first and answers NTSYNC_CORRUPT if the tables are not NTSYNC_CELLS long or break a rule of docs/LAYOUT.md; then
+ * NTSYNC_LIST_SHORT if it is lent too short a wake list or buffer; then what its comment says, in that order. A handle that
+ * is 0, unknown, closed or of another kind of object is always NTSYNC_EINVAL. */
 #ifndef NTSYNC_H
 #define NTSYNC_H
 
@@ -26,7 +32,7 @@
 
 /* ---- sizes */
 
-#define NTSYNC_CELLS 2785           /* cells of the tables */
+#define NTSYNC_CELLS 2785           /* cells of the tables: 22,280 bytes */
 #define NTSYNC_OBJECT_PLACES 128    /* objects at most; handles are 1 to 128 */
 #define NTSYNC_WAIT_PLACES 32       /* queued waits at most */
 #define NTSYNC_MAX_LISTED 64        /* handles in a wait's list at most; 1 at least */
@@ -40,7 +46,7 @@
 #define NTSYNC_REALTIME 1       /* likewise, the real-time clock */
 #define NTSYNC_NEVER UINT64_MAX /* a timeout that no time reaches */
 
-/* ---- answers */
+/* ---- answers: the library's own numbers, not those of errno.h */
 
 #define NTSYNC_DONE 0          /* the call took effect; the wait was served */
 #define NTSYNC_EINVAL 1        /* bad argument */
@@ -51,9 +57,9 @@
 #define NTSYNC_EINTR 6         /* the queued wait was cancelled */
 #define NTSYNC_NO_ROOM 7       /* no empty object place, or no empty wait place */
 #define NTSYNC_TICKETS_SPENT 8 /* all 2^64-2 tickets were given */
-#define NTSYNC_CORRUPT 9       /* the tables have another length or break a rule of docs/LAYOUT.md */
+#define NTSYNC_CORRUPT 9       /* the tables' length, or a rule of docs/LAYOUT.md, is broken, until they are restored or made */
 #define NTSYNC_BUSY 10         /* a queued wait names the object */
-#define NTSYNC_QUEUED 11       /* the wait has a ticket and will be woken */
+#define NTSYNC_QUEUED 11       /* the wait has a ticket; it stays queued until a call wakes, expires or cancels it */
 #define NTSYNC_LIST_SHORT 12   /* the wake list or the snapshot's buffer is too short */
 
 #ifdef __cplusplus
@@ -78,8 +84,9 @@ typedef struct { uint32_t answer, length; } ntsync_written;
 /* The NTSYNC_VERSION that the archive was built for. If it is not this header's, make no other call. */
 uint32_t ntsync_version(void);
 
-/* Makes empty tables: no object, no wait, next ticket 1. What the cells held before does not matter; tickets and handles
- * from before mean nothing afterwards. NTSYNC_DONE, or NTSYNC_CORRUPT with nothing altered if cells is not NTSYNC_CELLS. */
+/* Makes empty tables: no object, no wait, next ticket 1. What the cells held before does not matter; queued waits are gone
+ * without a record, so the host owes their tasks an answer, and handles and tickets are given from 1 on again. NTSYNC_DONE, or
+ * NTSYNC_CORRUPT with nothing altered if cells is not NTSYNC_CELLS. */
 uint32_t ntsync_init(uint64_t *tables, size_t cells);
 
 /* ---- objects: creating takes the lowest empty place, so the handle of a closed object is given again */
@@ -87,8 +94,9 @@ uint32_t ntsync_init(uint64_t *tables, size_t cells);
 /* A semaphore. NTSYNC_EINVAL if count exceeds max; NTSYNC_NO_ROOM if all places are in use. */
 ntsync_created ntsync_create_sem(uint64_t *tables, size_t cells, uint32_t count, uint32_t max);
 
-/* A mutex, held count times by owner, or unowned if both are 0. Owner numbers are the host's own, 0 is nobody.
- * NTSYNC_EINVAL if exactly one of the two is 0; NTSYNC_NO_ROOM if all places are in use. */
+/* A mutex, held count times by owner, or unowned if both are 0. Owner numbers are the host's own, 1 to 2^32-1, one for each
+ * task that may hold a mutex; 0 is nobody. NTSYNC_EINVAL if exactly one of the two is 0; NTSYNC_NO_ROOM if
+ * all places are in use. */
 ntsync_created ntsync_create_mutex(uint64_t *tables, size_t cells, uint32_t owner, uint32_t count);
 
 /* An event; each flag is on if it is not 0. A manual event stays signaled when a wait acquires it, another is cleared.
@@ -113,8 +121,9 @@ ntsync_event_state ntsync_read_event(const uint64_t *tables, size_t cells, uint3
  * These change one object and then try each queued wait that names it, lowest ticket first. A wait that can be served
  * acquires its objects, leaves the queue and gets a record in the wake list: ticket, answer (NTSYNC_DONE or
  * NTSYNC_EOWNERDEAD) and index, as a wait that is served at once would have returned them. The host owes each recorded
- * wait's task its answer: it already holds what it acquired. Records fill the list from its front, `woken` of them; cells
- * behind them are not altered. NTSYNC_LIST_SHORT if wake_cells is under NTSYNC_WAKE_CELLS. */
+ * wait's task its answer: it already holds what it acquired. Records fill the list from its front, `woken` of them: ticket,
+ * answer and index of record i are wake[3 * i], wake[3 * i + 1] and wake[3 * i + 2]. Cells behind them are not altered.
+ * NTSYNC_LIST_SHORT if wake_cells is under NTSYNC_WAKE_CELLS. */
 
 /* Adds to a semaphore's count; adding 0 is allowed. previous: the count before.
  * NTSYNC_EINVAL if the handle is no semaphore; NTSYNC_EOVERFLOW if count and add together exceed the maximum. */
@@ -126,8 +135,10 @@ ntsync_changed ntsync_post(uint64_t *tables, size_t cells, uint64_t *wake, size_
 ntsync_changed ntsync_unlock(uint64_t *tables, size_t cells, uint64_t *wake, size_t wake_cells,
                              uint32_t handle, uint32_t owner);
 
-/* For an owner that died: the mutex becomes unowned and abandoned, and who acquires it next gets NTSYNC_EOWNERDEAD.
- * previous is 0. The host owes this call for every mutex that the dead owner held; refusals as for ntsync_unlock. */
+/* For an owner that died: the mutex becomes unowned and abandoned, and who acquires it next gets NTSYNC_EOWNERDEAD. previous
+ * is 0; refusals as for ntsync_unlock. The owner's own queued waits are not touched and could acquire for it later: the host
+ * owes ntsync_cancel for each of them first, then this call for every mutex that the owner held (where it does not know
+ * them, for each handle, passing over NTSYNC_EINVAL and NTSYNC_EPERM), and only then gives the number to another task. */
 ntsync_changed ntsync_kill_owner(uint64_t *tables, size_t cells, uint64_t *wake, size_t wake_cells,
                                  uint32_t handle, uint32_t owner);
 
@@ -142,23 +153,26 @@ ntsync_changed ntsync_pulse(uint64_t *tables, size_t cells, uint64_t *wake, size
 
 /* ---- waiting
  *
- * list has 1 to NTSYNC_MAX_LISTED handles, owner is not 0, alert is 0 or an event's handle, flags is NTSYNC_MONOTONIC or
- * NTSYNC_REALTIME, pad is 0; time is the present time of that clock, timeout a time of it too (not a span) or NTSYNC_NEVER.
- * In this order:
+ * list has 1 to NTSYNC_MAX_LISTED handles; owner is who waits, not 0; alert is 0 or the handle of an event that ends the wait
+ * where the list can't (NT's alerts); flags is the wait's clock, NTSYNC_MONOTONIC or NTSYNC_REALTIME; pad is 0; timeout is a
+ * time of that clock (not a span) or NTSYNC_NEVER, and time its present time, in whatever unit the host uses: times are only
+ * compared. A timeout that is not later than time makes a poll, which never queues. In this order:
  *   NTSYNC_EINVAL         an argument is none of these, or a listed handle is no object;
  *   NTSYNC_DONE           served, the objects are acquired; index: see each call. If the list could not serve but the alert
  *                         is signaled, the alert is acquired and index is n;
- *   NTSYNC_EOWNERDEAD     the same, and an acquired mutex had been abandoned: what it guards may be half written;
+ *   NTSYNC_EOWNERDEAD     the same, and an acquired mutex had been abandoned: what it guards may be half written. The mark is
+ *                         gone with this answer; of several mutexes it is not told which (ntsync_read_mutex tells before);
  *   NTSYNC_ETIMEDOUT      not served, and timeout is not later than time;
  *   NTSYNC_NO_ROOM        it would have to queue, and all wait places are in use;
  *   NTSYNC_TICKETS_SPENT  it would have to queue, and there is no ticket left;
  *   NTSYNC_QUEUED         it is queued under `ticket`. The host keeps the ticket with the task, and calls ntsync_expire
- *                         when time passes: the library has no clock. Until the wait is woken, its objects can't be closed.
+ *                         when time passes: the library has no clock. Until the wait is over, its objects can't be closed.
  * Acquiring takes one from a semaphore, adds one to a mutex's count for owner, clears an event that is not manual. A
  * semaphore can be acquired when its count is not 0; a mutex when it is unowned or its owner asks again, and its count is
  * below 2^32-1; an event when it is signaled. */
 
-/* Acquires the first listed object that can be; index is its place in the list. A handle may stand there twice. */
+/* Acquires the first listed object that can be; index is its place in the list, from 0. A handle may stand there twice, and
+ * be the alert too. */
 ntsync_waited ntsync_wait_any(uint64_t *tables, size_t cells, const uint32_t *list, size_t n, uint32_t owner,
                               uint32_t alert, uint32_t flags, uint32_t pad, uint64_t timeout, uint64_t time);
 

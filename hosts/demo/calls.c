@@ -8,7 +8,7 @@ ntsync_changed result(uint32_t answer, uint32_t previous, uint32_t woken)
 
 void heard_as(host *h, const task *t, outcome heard, uint32_t answer, uint32_t index)
 {
-    say(h, t->name, "wakes: %s, index %u", answer_name(heard.answer), (unsigned)heard.index);
+    say(h, t->name, "%s: %s, index %u", heard.woken ? "wakes" : "goes on", answer_name(heard.answer), (unsigned)heard.index);
     expect(h, "answer of the wait", heard.answer, answer);
     expect(h, "index of the wait", heard.index, index);
 }
@@ -21,29 +21,32 @@ static void waited(host *h, task *t, const asked_wait *w, ntsync_waited r, uint3
     if (r.answer == NTSYNC_QUEUED)
         t->ticket = r.ticket;
     else
-        make_ready(h, t, (outcome){r.answer, r.index});
+        make_ready(h, t, (outcome){r.answer, r.index, 0});
 }
 
 void wait_any(host *h, task *t, const uint32_t *list, size_t n, uint32_t flags, uint64_t timeout, uint32_t wanted)
 {
-    asked_wait w = {"any", list, n, 0, flags, timeout};
+    asked_wait w = {"waits for any of", list, n, 0, flags, timeout};
     waited(h, t, &w, ntsync_wait_any(h->tables, NTSYNC_CELLS, list, n, t->owner, 0, flags, 0, timeout, h->clocks[flags]),
            wanted);
 }
 
 void wait_all(host *h, task *t, const uint32_t *list, size_t n, uint32_t alert, uint64_t timeout, uint32_t wanted)
 {
-    asked_wait w = {"all", list, n, alert, NTSYNC_MONOTONIC, timeout};
+    asked_wait w = {"waits for all of", list, n, alert, NTSYNC_MONOTONIC, timeout};
     waited(h, t, &w,
            ntsync_wait_all(h->tables, NTSYNC_CELLS, list, n, t->owner, alert, NTSYNC_MONOTONIC, 0, timeout,
                            h->clocks[NTSYNC_MONOTONIC]),
            wanted);
 }
 
-/* Nobody sets the timer event, so the wait ends by its timeout. */
+/* A wait for the timer event, which nobody sets, ends by its timeout. */
 void sleep_until(host *h, task *t, uint32_t clock, uint64_t time)
 {
-    wait_any(h, t, &h->plant.timer, 1, clock, time, NTSYNC_QUEUED);
+    asked_wait w = {"sleeps", NULL, 0, 0, clock, time};
+    waited(h, t, &w,
+           ntsync_wait_any(h->tables, NTSYNC_CELLS, &h->plant.timer, 1, t->owner, 0, clock, 0, time, h->clocks[clock]),
+           NTSYNC_QUEUED);
 }
 
 void changed(host *h, const char *who, const char *call, ntsync_changed r, ntsync_changed wanted)
@@ -61,8 +64,8 @@ void answered(host *h, const char *who, const char *call, uint32_t answer, uint3
     expect(h, call, answer, wanted);
 }
 
-void unlock(host *h, const task *t, uint32_t mutex, ntsync_changed wanted)
+void unlock(host *h, const task *t, const char *call, ntsync_changed wanted)
 {
-    changed(h, t->name, "unlocks the manifold",
-            ntsync_unlock(h->tables, NTSYNC_CELLS, h->wake, NTSYNC_WAKE_CELLS, mutex, t->owner), wanted);
+    changed(h, t->name, call,
+            ntsync_unlock(h->tables, NTSYNC_CELLS, h->wake, NTSYNC_WAKE_CELLS, h->plant.manifold, t->owner), wanted);
 }

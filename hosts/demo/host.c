@@ -38,7 +38,7 @@ static void say_timeout(const asked_wait *w)
 void say_wait(const host *h, const task *t, const asked_wait *w, ntsync_waited r)
 {
     begin_line(h, t->name);
-    printf("waits for %s of", w->mode);
+    printf("%s", w->told);
     for (size_t i = 0; i < w->n; i++)
         printf(" %s", h->object_names[w->list[i]]);
     if (w->alert != 0)
@@ -82,7 +82,7 @@ void wake_tasks(host *h, uint32_t woken)
         task *t = task_of(h, record[0]);
         expect(h, "a woken ticket is a task's", t != NULL, 1);
         if (t != NULL)
-            make_ready(h, t, (outcome){(uint32_t)record[1], (uint32_t)record[2]});
+            make_ready(h, t, (outcome){(uint32_t)record[1], (uint32_t)record[2], 1});
     }
 }
 

@@ -9,17 +9,17 @@ enum { TASKS = 5 };
 typedef struct host host;
 typedef struct task task;
 
-/* A wait as its task asks for it. */
+/* A wait as its task asks for it, and how the timeline tells it. */
 typedef struct {
-    const char *mode;
+    const char *told;
     const uint32_t *list;
     size_t n;
     uint32_t alert, flags;
     uint64_t timeout;
 } asked_wait;
 
-/* What a wait came to, as its task hears it. */
-typedef struct { uint32_t answer, index; } outcome;
+/* What a wait came to, as its task hears it, and whether it had been queued. */
+typedef struct { uint32_t answer, index; int woken; } outcome;
 
 /* One step of a task: it hears how its wait ended and asks for the next wait, or finishes by asking for none. */
 typedef void step_function(host *h, task *self, outcome heard);
@@ -64,7 +64,7 @@ void sleep_until(host *h, task *t, uint32_t clock, uint64_t time);
 void changed(host *h, const char *who, const char *call, ntsync_changed r, ntsync_changed wanted);
 void answered(host *h, const char *who, const char *call, uint32_t answer, uint32_t wanted);
 void heard_as(host *h, const task *t, outcome heard, uint32_t answer, uint32_t index);
-void unlock(host *h, const task *t, uint32_t mutex, ntsync_changed wanted);
+void unlock(host *h, const task *t, const char *call, ntsync_changed wanted);
 ntsync_changed result(uint32_t answer, uint32_t previous, uint32_t woken);
 
 /* plant.c: the objects and the tasks over them */

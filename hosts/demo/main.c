@@ -11,12 +11,13 @@ enum { TICK = 5, END = 60, RECORDER = 4 };
 static void set_clock_back(host *h)
 {
     h->clocks[NTSYNC_REALTIME] -= TICK;
-    say(h, "operator", "sets the real-time clock back");
+    say(h, "operator", "sets the real-time clock back by %d", TICK);
 }
 
 static void close_manifold(host *h)
 {
-    answered(h, "operator", "closes the manifold", ntsync_close(h->tables, NTSYNC_CELLS, h->plant.manifold), NTSYNC_BUSY);
+    answered(h, "operator", "tries to close the manifold", ntsync_close(h->tables, NTSYNC_CELLS, h->plant.manifold),
+             NTSYNC_BUSY);
 }
 
 /* Both waits on it are served, and it is clear afterwards. */
@@ -34,8 +35,8 @@ static void cancel_recorder(host *h)
     uint64_t ticket = t->ticket;
     uint32_t answer = ntsync_cancel(h->tables, NTSYNC_CELLS, ticket);
     answered(h, "operator", "cancels the recorder's wait", answer, NTSYNC_EINTR);
-    make_ready(h, t, (outcome){answer, 0});
-    answered(h, "operator", "cancels it again", ntsync_cancel(h->tables, NTSYNC_CELLS, ticket), NTSYNC_EINVAL);
+    make_ready(h, t, (outcome){answer, 0, 1});
+    answered(h, "operator", "tries to cancel it again", ntsync_cancel(h->tables, NTSYNC_CELLS, ticket), NTSYNC_EINVAL);
 }
 
 static void close_timer(host *h)

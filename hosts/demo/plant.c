@@ -25,13 +25,14 @@ static void create_objects(host *h)
 static void add_task(host *h, int place, const char *name, step_function *step)
 {
     h->tasks[place] = (task){.name = name, .step = step, .owner = (uint32_t)place + 1};
-    make_ready(h, &h->tasks[place], (outcome){NTSYNC_DONE, 0});
+    say(h, "plant", "task %s is owner %d", name, place + 1);
+    make_ready(h, &h->tasks[place], (outcome){NTSYNC_DONE, 0, 0});
 }
 
 void build_plant(host *h)
 {
     create_objects(h);
-    answered(h, "plant", "semaphore 5 of 4", ntsync_create_sem(h->tables, NTSYNC_CELLS, 5, 4).answer, NTSYNC_EINVAL);
+    answered(h, "plant", "tries a semaphore 5 of 4", ntsync_create_sem(h->tables, NTSYNC_CELLS, 5, 4).answer, NTSYNC_EINVAL);
     add_task(h, 0, "sensor", sensor_step);
     add_task(h, 1, "pump", pump_step);
     add_task(h, 2, "valve", valve_step);

@@ -29,7 +29,7 @@ static void report_pressure(host *h, task *self)
 
 static void release_manifold(host *h, task *self, uint32_t woken)
 {
-    unlock(h, self, h->plant.manifold, result(NTSYNC_DONE, 1, woken));
+    unlock(h, self, "unlocks the manifold", result(NTSYNC_DONE, 1, woken));
     wait_for_batch(h, self);
 }
 

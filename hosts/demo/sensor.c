@@ -3,16 +3,16 @@
 
 enum { START, BATCHES, LOW, POLLED, HOT };
 
-static void post(host *h, task *self, uint32_t add, ntsync_changed wanted)
+static void post(host *h, task *self, const char *call, uint32_t add, ntsync_changed wanted)
 {
-    changed(h, self->name, "posts batches",
+    changed(h, self->name, call,
             ntsync_post(h->tables, NTSYNC_CELLS, h->wake, NTSYNC_WAKE_CELLS, h->plant.batches, add), wanted);
 }
 
 /* The pump is served one batch; the other stays. */
 static void report_batches(host *h, task *self)
 {
-    post(h, self, 2, result(NTSYNC_DONE, 0, 1));
+    post(h, self, "posts 2 batches", 2, result(NTSYNC_DONE, 0, 1));
     ntsync_sem_state s = ntsync_read_sem(h->tables, NTSYNC_CELLS, h->plant.batches);
     expect(h, "batches left", s.count, 1);
     sleep_until(h, self, NTSYNC_MONOTONIC, 30);
@@ -21,7 +21,7 @@ static void report_batches(host *h, task *self)
 /* A wait whose timeout is now is a poll: it never queues. */
 static void lose_pressure(host *h, task *self)
 {
-    post(h, self, 4, result(NTSYNC_EOVERFLOW, 0, 0));
+    post(h, self, "tries to post 4 batches", 4, result(NTSYNC_EOVERFLOW, 0, 0));
     changed(h, self->name, "resets pressure", ntsync_reset(h->tables, NTSYNC_CELLS, h->plant.pressure),
             result(NTSYNC_DONE, 1, 0));
     wait_any(h, self, &h->plant.pressure, 1, NTSYNC_MONOTONIC, h->clocks[NTSYNC_MONOTONIC], NTSYNC_ETIMEDOUT);

@@ -4,9 +4,15 @@
 enum { START, NO_FLUSH, ABANDONED, INSPECTING, INSPECTED, FLUSHED, FINISH };
 
 /* Its deadline is one of the real-time clock, which the operator sets back meanwhile. */
+static void wait_for_flush(host *h, task *self)
+{
+    wait_any(h, self, &h->plant.flush, 1, NTSYNC_REALTIME, 1000020, NTSYNC_QUEUED);
+}
+
+/* The pump holds the manifold, so nobody else can unlock it; the standby valve waits for it without a deadline. */
 static void ask_for_manifold(host *h, task *self)
 {
-    unlock(h, self, h->plant.manifold, result(NTSYNC_EPERM, 0, 0));
+    unlock(h, self, "tries to unlock the manifold", result(NTSYNC_EPERM, 0, 0));
     wait_any(h, self, &h->plant.manifold, 1, NTSYNC_REALTIME, NTSYNC_NEVER, NTSYNC_QUEUED);
 }
 
@@ -20,13 +26,13 @@ static void take_again(host *h, task *self)
 
 static void inspect(host *h, task *self)
 {
-    unlock(h, self, h->plant.manifold, result(NTSYNC_DONE, 2, 0));
+    unlock(h, self, "unlocks the manifold once", result(NTSYNC_DONE, 2, 0));
     sleep_until(h, self, NTSYNC_REALTIME, 1000035);
 }
 
 static void hand_back(host *h, task *self)
 {
-    unlock(h, self, h->plant.manifold, result(NTSYNC_DONE, 1, 1));
+    unlock(h, self, "unlocks the manifold", result(NTSYNC_DONE, 1, 1));
     wait_any(h, self, &h->plant.flush, 1, NTSYNC_MONOTONIC, NTSYNC_NEVER, NTSYNC_QUEUED);
 }
 
@@ -38,7 +44,7 @@ void standby_step(host *h, task *self, outcome heard)
     if (state > START && state <= FINISH)
         heard_as(h, self, heard, wanted[state], 0);
     switch (state) {
-    case START: wait_any(h, self, &h->plant.flush, 1, NTSYNC_REALTIME, 1000020, NTSYNC_QUEUED); break;
+    case START: wait_for_flush(h, self); break;
     case NO_FLUSH: ask_for_manifold(h, self); break;
     case ABANDONED: take_again(h, self); break;
     case INSPECTING: inspect(h, self); break;

@@ -252,8 +252,8 @@ impl Tables {
         self.changed(r)
     }
 
-    /// For a dead owner: the mutex becomes unowned and abandoned, and a wait is woken for it. Refusals as for
-    /// [`Tables::unlock`].
+    /// For a dead owner: the mutex becomes unowned and abandoned, and the waits that it can serve now are woken. Cancel the
+    /// owner's own queued waits first: they could acquire for it later. Refusals as for [`Tables::unlock`].
     ///
     /// ```
     /// use ntsync::{Answer, Tables};

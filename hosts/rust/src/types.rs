@@ -28,7 +28,7 @@ pub enum Answer {
     Corrupt = 9,
     /// A refusal: a queued wait names the object.
     Busy = 10,
-    /// The wait has a ticket and will be woken.
+    /// The wait has a ticket; it stays queued until a call wakes, expires or cancels it.
     Queued = 11,
     /// A refusal: the wake list or the snapshot's buffer is too short. [`Tables`](crate::Tables) lends long ones always.
     ListShort = 12,
@@ -175,9 +175,9 @@ pub enum Waited {
     },
     /// Not served, and its time was up.
     TimedOut,
-    /// Queued: a later call will hand back this ticket.
+    /// Queued: a call that wakes or expires this wait hands back this ticket.
     Queued {
-        /// The ticket, never given again.
+        /// The ticket, not given again until [`Tables::init`](crate::Tables::init).
         ticket: u64,
     },
 }
