@@ -18,8 +18,9 @@
  * Answers. NTSYNC_EINVAL, EPERM, EOVERFLOW, NO_ROOM, TICKETS_SPENT, CORRUPT, BUSY and LIST_SHORT are refusals: the call
  * altered nothing, and every number beside the answer is 0. Every call but ntsync_version and ntsync_init reads all cells
  * first and answers NTSYNC_CORRUPT if the tables are not NTSYNC_CELLS long or break a rule of docs/LAYOUT.md; then
- * NTSYNC_LIST_SHORT if it is lent too short a wake list or buffer; then what its comment says, in that order. A handle that
- * is 0, unknown, closed or of another kind of object is always NTSYNC_EINVAL. */
+ * NTSYNC_LIST_SHORT if it is lent too short a wake list or buffer; then what its comment says, in that order. After these
+ * two, a handle that is 0, unknown, closed or of another kind of object is NTSYNC_EINVAL in every call; an alert of 0 is no
+ * handle. */
 #ifndef NTSYNC_H
 #define NTSYNC_H
 
@@ -136,9 +137,10 @@ ntsync_changed ntsync_unlock(uint64_t *tables, size_t cells, uint64_t *wake, siz
                              uint32_t handle, uint32_t owner);
 
 /* For an owner that died: the mutex becomes unowned and abandoned, and who acquires it next gets NTSYNC_EOWNERDEAD. previous
- * is 0; refusals as for ntsync_unlock. The owner's own queued waits are not touched and could acquire for it later: the host
- * owes ntsync_cancel for each of them first, then this call for every mutex that the owner held (where it does not know
- * them, for each handle, passing over NTSYNC_EINVAL and NTSYNC_EPERM), and only then gives the number to another task. */
+ * is 0; refusals as for ntsync_unlock. The owner's own queued waits are not ended: this call or a later one can serve them, and
+ * the dead owner then holds what they acquire. So the host owes ntsync_cancel for each of them first, then this call for every
+ * mutex that the owner held (where it does not know them, for each handle, passing over NTSYNC_EINVAL and NTSYNC_EPERM), and
+ * only then gives the number to another task. */
 ntsync_changed ntsync_kill_owner(uint64_t *tables, size_t cells, uint64_t *wake, size_t wake_cells,
                                  uint32_t handle, uint32_t owner);
 
@@ -156,13 +158,13 @@ ntsync_changed ntsync_pulse(uint64_t *tables, size_t cells, uint64_t *wake, size
  * list has 1 to NTSYNC_MAX_LISTED handles; owner is who waits, not 0; alert is 0 or the handle of an event that ends the wait
  * where the list can't (NT's alerts); flags is the wait's clock, NTSYNC_MONOTONIC or NTSYNC_REALTIME; pad is 0; timeout is a
  * time of that clock (not a span) or NTSYNC_NEVER, and time its present time, in whatever unit the host uses: times are only
- * compared. A timeout that is not later than time makes a poll, which never queues. In this order:
+ * compared. A timeout that is not later than time, NTSYNC_NEVER excepted, makes a poll, which never queues. In this order:
  *   NTSYNC_EINVAL         an argument is none of these, or a listed handle is no object;
  *   NTSYNC_DONE           served, the objects are acquired; index: see each call. If the list could not serve but the alert
  *                         is signaled, the alert is acquired and index is n;
  *   NTSYNC_EOWNERDEAD     the same, and an acquired mutex had been abandoned: what it guards may be half written. The mark is
  *                         gone with this answer; of several mutexes it is not told which (ntsync_read_mutex tells before);
- *   NTSYNC_ETIMEDOUT      not served, and timeout is not later than time;
+ *   NTSYNC_ETIMEDOUT      not served, and timeout is not later than time (NTSYNC_NEVER always is);
  *   NTSYNC_NO_ROOM        it would have to queue, and all wait places are in use;
  *   NTSYNC_TICKETS_SPENT  it would have to queue, and there is no ticket left;
  *   NTSYNC_QUEUED         it is queued under `ticket`. The host keeps the ticket with the task, and calls ntsync_expire

@@ -1,6 +1,7 @@
 /* What C sees of the interface: layouts, constants, and the numbers of one run of every call. abi.rs prints the same lines
  * as Rust sees it, and check compares them. */
 #include "ntsync.h"
+#include "ntsync.h" /* its include guard */
 
 #include <stdio.h>
 
@@ -111,6 +112,8 @@ static void waits(void)
     waited("list", ntsync_wait_any_list(tables, NTSYNC_CELLS, twice, 2, 6, 0, 1, 0, 900, 900));
     waited("list", ntsync_wait_all_list(tables, NTSYNC_CELLS, twice, 2, 6, 0, 1, 0, 900, 900));
     waited("list", ntsync_wait_all_list(tables, NTSYNC_CELLS, twice, 1, 6, 0, 1, 0, 901, 900));
+    waited("list", ntsync_wait_any_list(tables, NTSYNC_CELLS, list, 1, 6, 3, 1, 0, 902, 900));
+    waited("list", ntsync_wait_all_list(tables, NTSYNC_CELLS, list, 1, 6, 3, 1, 0, 903, 900));
 }
 
 static void signals(void)

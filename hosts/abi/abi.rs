@@ -114,6 +114,8 @@ fn waits(tables: &mut [u64]) {
         waited("list", ntsync_wait_any(t, n, d, 2, 6, 0, 1, 0, 900, 900));
         waited("list", ntsync_wait_all(t, n, d, 2, 6, 0, 1, 0, 900, 900));
         waited("list", ntsync_wait_all(t, n, d, 1, 6, 0, 1, 0, 901, 900));
+        waited("list", ntsync_wait_any(t, n, l, 1, 6, 3, 1, 0, 902, 900));
+        waited("list", ntsync_wait_all(t, n, l, 1, 6, 3, 1, 0, 903, 900));
     }
 }
 
