@@ -1,6 +1,6 @@
 //! What the random histories met. Every line that is required must have occurred.
 
-use second_model::{Call, Mode, Object, Outcome, Report, State, LIST, OBJECTS, WAITS, WAKE_CELLS};
+use second_model::{Call, Mode, Object, Outcome, Report, State, LIST, OBJECTS, TICKETS_SPENT, WAITS, WAKE_CELLS};
 use std::collections::BTreeMap;
 
 /// Every call and every answer that it can have on sound tables: each must have been seen, and no other.
@@ -25,8 +25,9 @@ pub const ANSWERS: [(&str, &[u32]); 18] = [
     ("picture", &[0, 12]),
 ];
 
-const SITUATIONS: [&str; 69] = [
+const SITUATIONS: [&str; 70] = [
     "queue filled to 32",
+    "no room with tickets spent",
     "served with the queue full",
     "timed out with the queue full",
     "128th object created",
@@ -282,6 +283,7 @@ impl Coverage {
         let (any, all) = (mode == Mode::Any, mode == Mode::All);
         let (full, n) = (before.queued.len() == WAITS, list.len());
         self.met("queue filled to 32", queued && before.queued.len() == WAITS - 1);
+        self.met("no room with tickets spent", outcome.answer == 7 && before.next == TICKETS_SPENT);
         self.met("served with the queue full", full && served);
         self.met("timed out with the queue full", full && answer == 5);
         self.met("abandoned mutex acquired by any", any && answer == 4);

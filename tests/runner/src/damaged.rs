@@ -265,7 +265,7 @@ impl Damage {
         for round in 0..GARBAGE {
             let mask = [u64::MAX, 3, 1, u32::MAX.into()][round % 4];
             let tables: Vec<u64> = (0..CELLS).map(|_| self.random.number() & mask).collect();
-            self.try_tables(&tables, 0).map_err(|what| format!("garbage: {what}"))?;
+            self.try_every_kind(&tables, 0).map_err(|what| format!("garbage: {what}"))?;
         }
         Ok(())
     }

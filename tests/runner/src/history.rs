@@ -53,7 +53,8 @@ pub fn run(limits: Limits) -> Result<String, String> {
     let calls = limits.calls.unwrap_or(if limits.seconds.is_some() { u64::MAX } else { CALLS });
     let end = limits.end();
     let played: Vec<_> = thread::scope(|scope| {
-        let runs: Vec<_> = seeds.iter().map(|&seed| scope.spawn(move || play_many(seed, calls, end, None))).collect();
+        let play = |seed| scope.spawn(move || play_many(Bench::new(None), seed, calls, end));
+        let runs: Vec<_> = seeds.iter().copied().map(play).collect();
         runs.into_iter().map(|run| run.join().expect("a history without panic")).collect()
     });
     let mut coverage = Coverage::default();
@@ -74,9 +75,8 @@ pub fn run(limits: Limits) -> Result<String, String> {
 }
 
 /// Plays histories until so many calls were made, time is up, or a call differs.
-pub fn play_many(seed: u64, calls: u64, end: Option<Instant>, slip: Option<Slip>) -> (Coverage, Option<Failure>) {
+pub fn play_many(mut bench: Bench, seed: u64, calls: u64, end: Option<Instant>) -> (Coverage, Option<Failure>) {
     let mut random = Random::new(seed);
-    let mut bench = Bench::new(slip);
     let mut coverage = Coverage::default();
     while coverage.calls < calls && end.is_none_or(|end| Instant::now() < end) {
         coverage.histories += 1;

@@ -145,6 +145,8 @@ pub struct Library {
     pub list: Lent<u32>,
     /// Done once, after the given number of calls.
     pub tamper: Option<(usize, Tamper)>,
+    /// Whether the arrays are lent in fenced memory, and at which fence.
+    pub fence: Option<Fence>,
 }
 
 /// Where the arrays of a call begin, and the lengths that no `Call` has.
@@ -174,6 +176,7 @@ impl Library {
             buffer: Lent::new(MOST_BYTES, |i| (i * 31 + 7) as u8),
             list: Lent::new(MOST_LISTED, |i| sentinel(i) as u32),
             tamper: None,
+            fence: None,
         }
     }
 
@@ -205,8 +208,34 @@ impl Library {
     pub fn play_cells(&mut self, call: &Call, cells: usize) -> Result<Outcome, String> {
         assert!(cells <= CELLS + GUARD && call.wake_cells().unwrap_or(0) <= MOST_WAKE);
         assert!(!matches!(call, Call::Picture { bytes } if *bytes > MOST_BYTES));
+        if let Some(fence) = self.fence {
+            return self.play_fenced(call, fence);
+        }
         let lending = self.lending(call, cells);
         let outcome = unsafe { heard(call, &lending) };
+        self.taken_back(call, outcome)
+    }
+
+    /// The same, every array in memory of its own that ends at a fence.
+    fn play_fenced(&mut self, call: &Call, fence: Fence) -> Result<Outcome, String> {
+        let bytes = if let Call::Picture { bytes } = call { *bytes } else { 0 };
+        let woken = call.wake_cells().unwrap_or(0);
+        let tables = Fenced::new(self.tables(), fence)?;
+        let wake = Fenced::new(self.wake.front(woken), fence)?;
+        let buffer = Fenced::new(self.buffer.front(bytes), fence)?;
+        let list = Fenced::new(call.listed(), fence)?;
+        let lending = Lending {
+            tables: tables.elements,
+            wake: wake.elements,
+            buffer: buffer.elements,
+            list: list.elements,
+            ..self.lending(call, CELLS)
+        };
+        let outcome = unsafe { heard(call, &lending) };
+        tables.give_back(self.tables_mut());
+        wake.give_back(self.wake.front_mut(woken));
+        buffer.give_back(self.buffer.front_mut(bytes));
+        list.give_back(self.list.front_mut(call.listed().len()));
         self.taken_back(call, outcome)
     }
 
@@ -328,6 +357,50 @@ impl Mapping {
 }
 
 impl Drop for Mapping {
+    fn drop(&mut self) {
+        unsafe { munmap(self.at, self.bytes) };
+    }
+}
+
+/// On which side of an array the pages begin that can't be touched; the other side has the rest of a page.
+#[derive(Clone, Copy, Debug)]
+pub enum Fence {
+    Before,
+    Behind,
+}
+
+/// An array between pages that can't be touched: reading or writing past its fence ends the program.
+struct Fenced<T> {
+    at: *mut c_void,
+    bytes: usize,
+    elements: *mut T,
+}
+
+impl<T: Copy> Fenced<T> {
+    const PAGE: usize = 4096;
+
+    fn new(elements: &[T], fence: Fence) -> Result<Fenced<T>, String> {
+        let inner = size_of_val(elements).div_ceil(Self::PAGE) * Self::PAGE;
+        let bytes = inner + 2 * Self::PAGE;
+        let at = unsafe { mmap(std::ptr::null_mut(), bytes, 0, 0x22, -1, 0) };
+        if at as isize == -1 || unsafe { mprotect(at.byte_add(Self::PAGE), inner, 3) } != 0 {
+            return Err(format!("no room to map {bytes} bytes"));
+        }
+        let slack = match fence {
+            Fence::Before => 0,
+            Fence::Behind => inner - size_of_val(elements),
+        };
+        let lent: *mut T = unsafe { at.byte_add(Self::PAGE + slack) }.cast();
+        unsafe { std::ptr::copy_nonoverlapping(elements.as_ptr(), lent, elements.len()) };
+        Ok(Fenced { at, bytes, elements: lent })
+    }
+
+    fn give_back(&self, elements: &mut [T]) {
+        unsafe { std::ptr::copy_nonoverlapping(self.elements, elements.as_mut_ptr(), elements.len()) };
+    }
+}
+
+impl<T> Drop for Fenced<T> {
     fn drop(&mut self) {
         unsafe { munmap(self.at, self.bytes) };
     }

@@ -6,6 +6,7 @@ mod calls;
 mod coverage;
 mod damaged;
 mod directed;
+mod fenced;
 mod generate;
 mod history;
 mod layout;
@@ -41,11 +42,12 @@ impl Limits {
 
 type Run = fn(Limits) -> Result<String, String>;
 
-const MODES: [(&str, Run); 6] = [
+const MODES: [(&str, Run); 7] = [
     ("vectors", |_| vectors::run()),
     ("directed", |_| directed::run()),
     ("tampered", |_| tampered::run()),
     ("random", history::run),
+    ("fenced", fenced::run),
     ("damaged", damaged::run),
     ("slips", slips::run),
 ];

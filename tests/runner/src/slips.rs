@@ -2,6 +2,7 @@
 //! the shrunk history when it is read back.
 
 use crate::history::{play_many, Failure};
+use crate::play::Bench;
 use crate::shrink::shrunk;
 use crate::vectors::read_back;
 use crate::Limits;
@@ -23,7 +24,7 @@ pub fn run(limits: Limits) -> Result<String, String> {
     let seed = limits.seed.unwrap_or(SEED);
     let mut found = Vec::new();
     for (slip, name) in SLIPS {
-        let (coverage, failure) = play_many(seed, CALLS, None, Some(slip));
+        let (coverage, failure) = play_many(Bench::new(Some(slip)), seed, CALLS, None);
         let failure = failure.ok_or(format!("slip not found in {} calls: {name}", coverage.calls))?;
         let script = script_of(failure, slip).map_err(|what| format!("{name}: {what}"))?;
         print!("{name}\n{script}");

@@ -7,6 +7,8 @@ use crate::script::{heard_text, number_names, outcome_text, step_or_text, step_t
 use second_model::{answer, Call, Mode, Outcome, Report, LIST, NEVER, PICTURE_BYTES, WAKE_CELLS};
 
 const FILE: &str = include_str!("../../vectors/histories.txt");
+/// What the file has, so that no step is lost unseen.
+const WHOLE: &str = "42 histories, 681 steps";
 
 #[derive(Clone, Debug)]
 struct Step {
@@ -30,7 +32,10 @@ struct Script {
 
 pub fn run() -> Result<String, String> {
     let first = FILE.find("\nK1 ").ok_or("no history K1")?;
-    play_text(&FILE[first..], &mut String::new())
+    match play_text(&FILE[first..], &mut String::new())? {
+        played if played == WHOLE => Ok(played),
+        played => Err(format!("{played}, and the file had {WHOLE}: some were lost, or came")),
+    }
 }
 
 /// Plays the histories of a file and prints what was heard.
