@@ -3,14 +3,17 @@
 ghost use mathlib.Core.Path.{_≡_};
 ghost use mathlib.Core.List.{[]};
 ghost use lib.ListN.{getD};
-ghost use Rattle.model.specs.Calls.{signal, post, asks};
+ghost use Rattle.model.specs.Calls.{signal, post, wakeLent, asks};
 ghost use Rattle.model.specs.Steps.{tableStep, seen, handed};
 
 // Posts, and hands back the ticket of the first woken wait, 0 where none was woken.
 pub fn post_first(tables: &mut [u64], wake: &mut [u64], handle: u32, add: u32) -> u64
-    ensures first { λ r. ⌜ r ≡ getD (handed (tableStep (now (tables .entry)) (asks (signal (post add) handle) (now (wake .entry)) [])) .1) 0 0 ⌝ }
-    ensures cells { λ _. ⌜ seen (tableStep (now (tables .entry)) (asks (signal (post add) handle) (now (wake .entry)) [])) .1 ≡ now (wake .exit) ⌝ }
-    ensures tables { λ _. ⌜ seen (tableStep (now (tables .entry)) (asks (signal (post add) handle) (now (wake .entry)) [])) .3 ≡ now (tables .exit) ⌝ }
+    ensures first { λ r. ⌜ r ≡ getD (handed (tableStep (now (tables .entry))
+        (asks (signal (post add) handle) (wakeLent (now (wake .entry))))) .front) 0 0 ⌝ }
+    ensures cells { λ _. ⌜ seen (tableStep (now (tables .entry))
+        (asks (signal (post add) handle) (wakeLent (now (wake .entry))))) .lent .wake ≡ now (wake .exit) ⌝ }
+    ensures tables { λ _. ⌜ seen (tableStep (now (tables .entry))
+        (asks (signal (post add) handle) (wakeLent (now (wake .entry))))) .tables ≡ now (tables .exit) ⌝ }
 {
     let r = ntsync::post(tables, wake, handle, add);
     let end = 3 * (r.woken as usize);

@@ -5,7 +5,7 @@ ghost use mathlib.Core.List.{[]};
 ghost use Prim.Native.Nat.{_<_};
 ghost use lib.ListN.{length};
 ghost use Rattle.model.specs.Sizes.{waitPlaces};
-ghost use Rattle.model.specs.Calls.{lend, aSemaphore, aMutex, anEvent};
+ghost use Rattle.model.specs.Calls.{nothingLent, aSemaphore, aMutex, anEvent};
 ghost use Rattle.model.specs.Layout.{tableLength};
 ghost use Rattle.cells.specs.Fold.{someBelow};
 ghost use mathlib.Core.Bool.{true};
@@ -33,7 +33,7 @@ pub struct Numbers {
 // A new object at the lowest empty place; `bad` is true where its numbers are refused.
 pub fn create(t: &mut [u64], bad: bool, o: Object) -> Numbered
     requires { ⌜ length (now t) ≡ tableLength ⌝ }
-    ensures { λ r. ⌜ answered (r .answer) (r .number) 0 (now (t .exit)) (lend [] []) ≡ createCells bad (cellsOf o) (now (t .entry)) (lend [] []) ⌝ }
+    ensures { λ r. ⌜ answered (r .answer) (r .number) 0 (now (t .exit)) nothingLent ≡ createCells bad (cellsOf o) (now (t .entry)) nothingLent ⌝ }
 {
     if bad {
         return Numbered {
@@ -83,7 +83,7 @@ fn busy(t: &[u64], h: u64) -> bool
 
 pub fn close(t: &mut [u64], h: u64) -> u32
     requires { ⌜ length (now t) ≡ tableLength ⌝ }
-    ensures { λ r. ⌜ answered r 0 0 (now (t .exit)) (lend [] []) ≡ closeCells h (now (t .entry)) (lend [] []) ⌝ }
+    ensures { λ r. ⌜ answered r 0 0 (now (t .exit)) nothingLent ≡ closeCells h (now (t .entry)) nothingLent ⌝ }
 {
     let empty = !validity::occupied(t, h);
     if empty {
@@ -109,7 +109,7 @@ pub fn close(t: &mut [u64], h: u64) -> u32
 // The count and the attribute of an object of this kind.
 fn read_pair(t: &[u64], h: u64, kind: u64) -> Numbers
     requires { ⌜ (length (now t) ≡ tableLength) × (validCells (now t) ≡ true) ⌝ }
-    ensures { λ r. ⌜ leftBy r (now (t .entry)) ≡ readPair kind h (now (t .entry)) (lend [] []) ⌝ }
+    ensures { λ r. ⌜ leftBy r (now (t .entry)) ≡ readPair kind h (now (t .entry)) nothingLent ⌝ }
 {
     let o = tables::named(t, h);
     if o.kind == kind {
@@ -128,14 +128,14 @@ fn read_pair(t: &[u64], h: u64, kind: u64) -> Numbers
 
 pub fn read_semaphore(t: &[u64], h: u64) -> Numbers
     requires { ⌜ (length (now t) ≡ tableLength) × (validCells (now t) ≡ true) ⌝ }
-    ensures { λ r. ⌜ leftBy r (now (t .entry)) ≡ readCells aSemaphore h (now (t .entry)) (lend [] []) ⌝ }
+    ensures { λ r. ⌜ leftBy r (now (t .entry)) ≡ readCells aSemaphore h (now (t .entry)) nothingLent ⌝ }
 {
     read_pair(t, h, Semaphore::KIND)
 }
 
 pub fn read_event(t: &[u64], h: u64) -> Numbers
     requires { ⌜ (length (now t) ≡ tableLength) × (validCells (now t) ≡ true) ⌝ }
-    ensures { λ r. ⌜ leftBy r (now (t .entry)) ≡ readCells anEvent h (now (t .entry)) (lend [] []) ⌝ }
+    ensures { λ r. ⌜ leftBy r (now (t .entry)) ≡ readCells anEvent h (now (t .entry)) nothingLent ⌝ }
 {
     read_pair(t, h, Event::KIND)
 }
@@ -143,7 +143,7 @@ pub fn read_event(t: &[u64], h: u64) -> Numbers
 // An abandoned mutex is told by its answer alone.
 pub fn read_mutex(t: &[u64], h: u64) -> Numbers
     requires { ⌜ (length (now t) ≡ tableLength) × (validCells (now t) ≡ true) ⌝ }
-    ensures { λ r. ⌜ leftBy r (now (t .entry)) ≡ readCells aMutex h (now (t .entry)) (lend [] []) ⌝ }
+    ensures { λ r. ⌜ leftBy r (now (t .entry)) ≡ readCells aMutex h (now (t .entry)) nothingLent ⌝ }
 {
     let o = tables::named(t, h);
     if o.kind != Mutex::KIND {
@@ -169,7 +169,7 @@ pub fn read_mutex(t: &[u64], h: u64) -> Numbers
 
 pub fn reset(t: &mut [u64], h: u64) -> Numbered
     requires { ⌜ (length (now t) ≡ tableLength) × (validCells (now t) ≡ true) ⌝ }
-    ensures { λ r. ⌜ answered (r .answer) (r .number) 0 (now (t .exit)) (lend [] []) ≡ resetCells h (now (t .entry)) (lend [] []) ⌝ }
+    ensures { λ r. ⌜ answered (r .answer) (r .number) 0 (now (t .exit)) nothingLent ≡ resetCells h (now (t .entry)) nothingLent ⌝ }
 {
     let o = tables::named(t, h);
     let previous = o.count as u32;
@@ -189,7 +189,7 @@ pub fn reset(t: &mut [u64], h: u64) -> Numbered
 
 pub fn cancel(t: &mut [u64], ticket: u64) -> u32
     requires { ⌜ length (now t) ≡ tableLength ⌝ }
-    ensures { λ r. ⌜ answered r 0 0 (now (t .exit)) (lend [] []) ≡ cancelCells ticket (now (t .entry)) (lend [] []) ⌝ }
+    ensures { λ r. ⌜ answered r 0 0 (now (t .exit)) nothingLent ≡ cancelCells ticket (now (t .entry)) nothingLent ⌝ }
 {
     if ticket == 0 {
         return 1;

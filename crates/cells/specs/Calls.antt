@@ -7,7 +7,7 @@ use lib.Dec.{eqb, ltb, leb}
 use Rattle.model.specs.Sizes.{objectPlaces, waitPlaces, maxListed, word64, wakeLength, snapshotBuffer}
 use Rattle.model.specs.Basics.{bit, anyOf, overwrite}
 use Rattle.model.specs.Waits.{Mode, any, all}
-use Rattle.model.specs.Calls.{Operation, create, close, resetEvent, read, signal, wait, expire, cancel, snapshot, Kind, aSemaphore, aMutex, anEvent, Signal, post, unlock, kill, setEvent, pulseEvent, Lent, Call, badNew, timeUp}
+use Rattle.model.specs.Calls.{Operation, create, close, resetEvent, read, signal, wait, expire, cancel, snapshot, Kind, aSemaphore, aMutex, anEvent, Signal, post, unlock, kill, setEvent, pulseEvent, Lent, Call, badNew, timeUp, nothingLent}
 use Rattle.model.specs.Layout.{headerSize, tableLength, modeCell}
 use Rattle.cells.specs.Fold.{foldBelow, someBelow, searchFrom}
 use Rattle.cells.specs.Objects.{Fields, fields, noFields, fieldsAt, putFields, named, store, Changed, postFields, unlockFields, killFields, switchFields}
@@ -184,4 +184,4 @@ unfoldable pub madeCells : List ℕ → List ℕ
 madeCells t = set (foldBelow (λ u i. set u i 0) t tableLength) 0 1
 
 unfoldable pub makeCells : List ℕ → Result
-makeCells t = cond (eqb (length t) tableLength) (answered 0 0 0 (madeCells t) (record { wake = []; buffer = [] })) (refusedWith 9 t (record { wake = []; buffer = [] }))
+makeCells t = cond (eqb (length t) tableLength) (answered 0 0 0 (madeCells t) nothingLent) (refusedWith 9 t nothingLent)

@@ -2,14 +2,20 @@
 -- reference's.
 use mathlib.Core.Path.{_≡_, refl}
 use mathlib.Core.Bool.{true, false}
+use native.Mathlib.Omega.{arith}
+use lib.Dec.{lit<}
 use mathlib.Core.List.{List, [], _∷_, _++_, map}
-use Prim.Native.Nat.{ℕ, suc, _-_}
+use Prim.Native.Nat.{ℕ, suc, _-_, _≤_}
 use lib.ListN.{set, replicate, take}
 use Rattle.model.specs.Basics.{anyOf, allOf, member, hasRepeat, tabulate, joined}
-use Rattle.model.specs.Calls.{aSemaphore, aMutex, anEvent, post, unlock, kill, setEvent, pulseEvent, Operation, create, close, read, signal, wait, expire, cancel, lend, Call, least, lowestEmpty, allOccupied, waitsFull, enqueue, refusals, admits, endEach, change}
+use Rattle.model.specs.Calls.{aSemaphore, aMutex, anEvent, post, unlock, kill, setEvent, pulseEvent, Operation, create, close, read, signal, wait, expire, cancel, wakeLent, Call, least, lowestEmpty, allOccupied, waitsFull, enqueue, refusals, admits, endEach, change}
 use Rattle.model.specs.Snapshot.{ascii, digitsUpTo, line, objectText, objectsText, objectCount, waitText, queueFrom, snapshotText}
-use Rattle.model.specs.Layout.{tableLength, objectCells, waitCells, encode, view, distinctTickets, sameCells, validTables}
-use Rattle.model.specs.Sizes.{objectPlaces, mutexCeiling, never, wakeLength}
+use Rattle.model.specs.Layout.{waitSize, tableLength, objectCells, waitCells, encode, view, distinctTickets, sameCells, validTables}
+use Rattle.model.specs.Sizes.{objectPlaces, waitPlaces, mutexCeiling, never, wakeLength}
+use Rattle.model.specs.ValidCells.{ValidCells}
+use Rattle.model.proofs.Literal.{test-lines}
+use Rattle.model.proofs.Validity.{encoded-valid}
+use Rattle.model.proofs.History.{initial-settled}
 use Rattle.model.specs.Steps.{Outcome, firstRefusal, records, libraryStep, referenceStep, run}
 use Rattle.model.specs.Waits.{Mode, any, all, State, initial, lowestSignaled, allSignaled, look, attempt, acquireEach, anyAbandoned, dequeue, oldest, concernedBy, serve, tryToServe, walkQueue, searchQueue}
 
@@ -31,7 +37,7 @@ reports x rs = record { answer = 0; first = x; second = 0; woken = rs }
 
 -- a call that is lent a full wake list and no buffer
 abbrev calling : Operation → Call
-calling op = record { operation = op; lent = lend (replicate wakeLength 0) [] }
+calling op = record { operation = op; lent = wakeLent (replicate wakeLength 0) }
 
 -- owner o waits without alert, for ever
 abbrev waits : Mode → List ℕ → ℕ → Operation
@@ -136,8 +142,17 @@ pub example-snapshot : snapshotText (lastState (run libraryStep initial (map cal
 unfolding lowestSignaled allSignaled look attempt acquireEach anyAbandoned dequeue oldest serve tryToServe member concernedBy walkQueue libraryStep firstRefusal records run refusals change least lowestEmpty waitsFull enqueue allOccupied hasRepeat anyOf admits snapshotText objectText objectsText objectCount waitText queueFrom joined line digitsUpTo
 example-snapshot = refl
 
--- One damaged cell of newly made tables, and one cell too few or too many: each is corrupt. Newly made tables are not.
-pub examples-corrupt : map validTables (let t = encode initial in t ∷ set t 0 0 ∷ set t 2 1 ∷ set t (tableLength - 1) 1 ∷ take (tableLength - 1) t ∷ (t ++ (0 ∷ [])) ∷ [])
-    ≡ true ∷ false ∷ false ∷ false ∷ false ∷ false ∷ []
-unfolding validTables sameCells view encode tabulate joined objectCells waitCells allOf oldest distinctTickets
-examples-corrupt = refl
+-- One damaged cell of newly made tables, and one cell too few: each is corrupt, by the line that it breaks. Newly made tables
+-- are not. (By lines and not by computing `validTables`: `view` reads thousands of cells by their index.)
+pub example-valid : validTables (encode initial) ≡ true
+example-valid = encoded-valid initial (initial-settled .valid)
+
+pub examples-corrupt : (validTables (set (encode initial) 0 0) ≡ true → ⊥) × (validTables (set (encode initial) 2 1) ≡ true → ⊥) × (validTables (set (encode initial) (tableLength - 1) 1) ≡ true → ⊥)
+    × (validTables (take (tableLength - 1) (encode initial)) ≡ true → ⊥)
+unfolding encode joined objectCells waitCells
+examples-corrupt = (
+  λ e. let l : 1 ≤ 0 = (test-lines (set (encode initial) 0 0) e) .next .0 in let z : ⊥ = omega arith in z,
+  λ e. let l : _≡_ {A = ℕ} 1 0 = ((test-lines (set (encode initial) 2 1) e) .objects 0 (lit< tt) .zeros refl) .0 in let z : ⊥ = omega arith in z,
+  λ e. let l : _≡_ {A = ℕ} 1 0 = (test-lines (set (encode initial) (tableLength - 1) 1) e) .free (waitPlaces - 1) (lit< tt) refl (waitSize - 1) (lit< tt) in let z : ⊥ = omega arith in z,
+  λ e. let l : _≡_ {A = ℕ} (tableLength - 1) tableLength = (test-lines (take (tableLength - 1) (encode initial)) e) .size in let z : ⊥ = omega arith in z,
+)

@@ -4,19 +4,24 @@ use mathlib.Core.Bool.{Bool, true, false, cond}
 use mathlib.Core.List.{List, [], _∷_}
 use mathlib.Core.Option.{some}
 use mathlib.Core.Logic.{inl, inr, _↔_}
-use Prim.Native.Nat.{ℕ, _≤_}
+use Prim.Native.Nat.{ℕ, zero, suc, _≤_}
 use native.Mathlib.Omega.{arith}
 use lib.ListN.{length}
 use lib.Dec.{eqb}
 use borrow.Author.Tests.{eqb-true, eqb-false}
 use Rattle.model.specs.Basics.{done, ownerDead, number, member, All}
-use Rattle.model.specs.Calls.{Kind, aSemaphore, aMutex, anEvent, Signal, post, unlock, kill, setEvent, pulseEvent, Operation, create, close, resetEvent, read, signal, wait, expire, cancel, snapshot, Call, Refusal, Rule, rule, wrongKind, onSemaphore, onMutex, onEvent, readRule, signalRule, timeUp, newWait, refusals, Change, admits, change}
+use Rattle.model.specs.Calls.{endEach, Kind, aSemaphore, aMutex, anEvent, Signal, post, unlock, kill, setEvent}
+use Rattle.model.specs.Calls.{pulseEvent, Operation, create, close, resetEvent, read, signal, wait, expire}
+use Rattle.model.specs.Calls.{cancel, snapshot, Call, Refusal, Rule, rule, wrongKind, onSemaphore, onMutex}
+use Rattle.model.specs.Calls.{onEvent, readRule, signalRule, timeUp, newWait, refusals, Change, admits, change}
 use Rattle.model.specs.Objects.{Object, empty, semaphore, mutex, event}
-use Rattle.model.specs.Steps.{unaltered, conditions, firstRefusal, perform, libraryStep, refusalNumbers, FirstIs}
-use Rattle.model.specs.Waits.{Wait, State, objectAt, attempt, anyAbandoned, Woken, wakeByWalk}
-use Rattle.model.proofs.Waking.{walk-nothing}
+use Rattle.model.specs.Steps.{unaltered, conditions, firstRefusal, perform, libraryStep}
+use Rattle.model.specs.Notions.{refusalNumbers, FirstIs}
+use Rattle.model.specs.Waits.{Wait, State, withWaits, objectAt, attempt, anyAbandoned, dequeue, oldest, Woken}
+use Rattle.model.specs.Waits.{wakeByWalk}
+use Rattle.model.proofs.Waking.{walk-keeps, walk-nothing}
 use Rattle.model.proofs.Logic.{byBool, byOption, clash, differ}
-use Rattle.model.proofs.Rules.{perform-case}
+use Rattle.model.proofs.Rules.{due, perform-case}
 
 -- a property of the rules of one object, whatever it is
 module _ (P : Rule → Type 0) (wrong : P wrongKind) where
@@ -113,52 +118,66 @@ refusals-low n e = among (λ n. n ≤ 12) refusalNumbers (omega arith, (omega ar
 pub others-low : (n : ℕ) → member n otherNumbers ≡ true → n ≤ 12
 others-low n e = among (λ n. n ≤ 12) otherNumbers (omega arith, (omega arith, (omega arith, (omega arith, (omega arith, tt))))) n e
 
--- "5: objects unaltered; 6: objects unaltered"
-abbrev ended : List ℕ
-ended = 5 ∷ 6 ∷ []
-
+-- "5: objects unaltered; 6: objects unaltered";
+-- and "nothing else spends" a ticket but queuing
 pub record Fine (s : State) (d : Change) : Type 0 where
   pub number : member (d .answer) otherNumbers ≡ true
   pub ends : member (d .answer) (5 ∷ 6 ∷ []) ≡ true → (d .state .objects ≡ s .objects) × (d .changed ≡ []) × (d .clears ≡ 0)
+  pub spends : d .state .next ≡ cond (eqb (d .answer) 11) (suc (s .next)) (s .next)
 
 -- an answer of 0 or 4
 abbrev Plain : ℕ → Type 0
-Plain a = (member a otherNumbers ≡ true) × (member a (5 ∷ 6 ∷ []) ≡ false)
+Plain a = member a (0 ∷ 4 ∷ []) ≡ true
 
-plain-fine : (s : State) (d : Change) → Plain (d .answer) → Fine s d
-plain-fine s d p = record { number = p .0; ends = λ e. clash e (p .1) }
+plain-is : (P : ℕ → Type 0) → P 0 → P 4 → (a : ℕ) → Plain a → P a
+plain-is P p q a e = among P (0 ∷ 4 ∷ []) (p, (q, tt)) a e
+
+plain-fine : (s : State) (d : Change) → Plain (d .answer) → d .state .next ≡ s .next → Fine s d
+unfolding member
+plain-fine s d p n = record {
+  number = plain-is (λ a. member a otherNumbers ≡ true) refl refl (d .answer) p;
+  ends = λ e. clash e (plain-is (λ a. member a (5 ∷ 6 ∷ []) ≡ false) refl refl (d .answer) p);
+  spends = let z = plain-is (λ a. eqb a 11 ≡ false) refl refl (d .answer) p in rw z n;
+}
 
 signal-plain : (how : Signal) (x : Object) → Plain ((signalRule how x) .answer)
 unfolding member
-signal-plain (post add) x = on-semaphore (λ r. Plain (r .answer)) (refl, refl) x _ (λ c m. (refl, refl))
-signal-plain (unlock o) x = on-mutex (λ r. Plain (r .answer)) (refl, refl) x _ (λ h c a. (refl, refl))
-signal-plain (kill o) x = on-mutex (λ r. Plain (r .answer)) (refl, refl) x _ (λ h c a. (refl, refl))
-signal-plain setEvent x = on-event (λ r. Plain (r .answer)) (refl, refl) x _ (λ s m. (refl, refl))
-signal-plain pulseEvent x = on-event (λ r. Plain (r .answer)) (refl, refl) x _ (λ s m. (refl, refl))
+signal-plain (post add) x = on-semaphore (λ r. Plain (r .answer)) refl x _ (λ c m. refl)
+signal-plain (unlock o) x = on-mutex (λ r. Plain (r .answer)) refl x _ (λ h c a. refl)
+signal-plain (kill o) x = on-mutex (λ r. Plain (r .answer)) refl x _ (λ h c a. refl)
+signal-plain setEvent x = on-event (λ r. Plain (r .answer)) refl x _ (λ s m. refl)
+signal-plain pulseEvent x = on-event (λ r. Plain (r .answer)) refl x _ (λ s m. refl)
 
 read-plain : (k : Kind) (x : Object) → Plain ((readRule k x) .answer)
 unfolding member
-read-plain aSemaphore x = on-semaphore (λ r. Plain (r .answer)) (refl, refl) x _ (λ c m. (refl, refl))
-read-plain aMutex x = on-mutex (λ r. Plain (r .answer)) (refl, refl) x _ (λ o c a. read-mutex (λ r. Plain (r .answer)) x o c a (refl, refl) (refl, refl))
-read-plain anEvent x = on-event (λ r. Plain (r .answer)) (refl, refl) x _ (λ s m. (refl, refl))
+read-plain aSemaphore x = on-semaphore (λ r. Plain (r .answer)) refl x _ (λ c m. refl)
+read-plain aMutex x = on-mutex (λ r. Plain (r .answer)) refl x _ (λ o c a. read-mutex (λ r. Plain (r .answer)) x o c a refl refl)
+read-plain anEvent x = on-event (λ r. Plain (r .answer)) refl x _ (λ s m. refl)
 
 admits-fine : (w : Wait) (time : ℕ) (s : State) → Fine s (admits w time s)
 unfolding admits member
 admits-fine w time s = byOption (attempt (s .objects) w)
-    (λ e. rw e (byBool (timeUp (w .timeout) time) (λ t. rw t record { number = refl; ends = λ z. (refl, refl, refl) }) (λ f. rw f record { number = refl; ends = λ z. clash z refl })))
-    (λ g e. byBool (anyAbandoned (s .objects) (g .handles)) (λ d. rw (e, d) record { number = refl; ends = λ z. clash z refl }) (λ d. rw (e, d) record { number = refl; ends = λ z. clash z refl }))
+    (λ e. rw e (byBool (timeUp (w .timeout) time) (λ t. rw t record { number = refl; ends = λ z. (refl, refl, refl); spends = refl })
+    (λ f. rw f record { number = refl; ends = λ z. clash z refl; spends = refl })))
+    (λ g e. byBool (anyAbandoned (s .objects) (g .handles)) (λ d. rw (e, d) record { number = refl; ends = λ z. clash z refl; spends = refl })
+    (λ d. rw (e, d) record { number = refl; ends = λ z. clash z refl; spends = refl }))
+
+endEach-next : (n : ℕ) (f : Wait → Bool) (s : State) → (endEach n f s) .state .next ≡ s .next
+unfolding endEach
+endEach-next zero f s = refl
+endEach-next (suc n) f s = byOption (oldest f (s .waits)) (λ e. rw e) (λ w e. rw e (endEach-next n f (withWaits s (dequeue (w .ticket) (s .waits)))))
 
 pub change-fine : (op : Operation) (s : State) → Fine s (change op s)
 unfolding change member
-change-fine (create k x y) s = plain-fine s _ (refl, refl)
-change-fine (close h) s = plain-fine s _ (refl, refl)
-change-fine (resetEvent h) s = plain-fine s _ (on-event (λ r. Plain (r .answer)) (refl, refl) (objectAt (s .objects) h) _ (λ v m. (refl, refl)))
-change-fine (read k h) s = plain-fine s _ (read-plain k (objectAt (s .objects) h))
-change-fine (signal how h) s = plain-fine s _ (signal-plain how (objectAt (s .objects) h))
+change-fine (create k x y) s = plain-fine s _ refl refl
+change-fine (close h) s = plain-fine s _ refl refl
+change-fine (resetEvent h) s = plain-fine s _ (on-event (λ r. Plain (r .answer)) refl (objectAt (s .objects) h) _ (λ v m. refl)) refl
+change-fine (read k h) s = plain-fine s _ (read-plain k (objectAt (s .objects) h)) refl
+change-fine (signal how h) s = plain-fine s _ (signal-plain how (objectAt (s .objects) h)) refl
 change-fine (wait mode hs o f p a t now) s = admits-fine (newWait mode hs o f a t (s .next)) now s
-change-fine (expire c t) s = plain-fine s _ (refl, refl)
-change-fine (cancel t) s = record { number = refl; ends = λ e. (refl, refl, refl) }
-change-fine snapshot s = plain-fine s _ (refl, refl)
+change-fine (expire c t) s = plain-fine s _ refl (endEach-next (length (s .waits)) (due c t) s)
+change-fine (cancel t) s = record { number = refl; ends = λ e. (refl, refl, refl); spends = refl }
+change-fine snapshot s = plain-fine s _ refl refl
 
 -- EVERY CALL on states
 pub step-low : (s : State) (c : Call) → (libraryStep s c) .answer ≤ 12
@@ -175,6 +194,19 @@ unfolding libraryStep
 step-ended s c = perform-case wakeByWalk s c (λ o. member (o .answer) (5 ∷ 6 ∷ []) ≡ true → o .held .objects ≡ s .objects) (λ n e m. refl)
     (λ a m. let d : Change = change (c .operation) s in let r = (change-fine (c .operation) s) .ends m in let e1 = r .1 in let e2 = r .2 in
     rw (e2, e1, walk-nothing (length (d .state .waits)) 0 (d .state)) (r .0))
+
+pub refused-not : (n : ℕ) (k : ℕ) → member k refusalNumbers ≡ false → member n refusalNumbers ≡ true → eqb n k ≡ false
+refused-not n k other e = byBool (eqb n k) (λ y. clash (let q : n ≡ k = eqb-true n k y in rw q at e) other) (λ f. f)
+
+pub step-spends : (s : State) (c : Call) → (libraryStep s c) .held .next ≡ cond (eqb ((libraryStep s c) .answer) 11) (suc (s .next)) (s .next)
+unfolding libraryStep member
+step-spends s c = perform-case wakeByWalk s c (λ o. o .held .next ≡ cond (eqb (o .answer) 11) (suc (s .next)) (s .next))
+    (λ n e. let z : eqb n 11 ≡ false = eleven n (refused-numbered c s n e) in rw z)
+    (λ a. let d : Change = change (c .operation) s in
+    walk-keeps (λ u. u .next ≡ d .state .next) (λ u w t m q k. k) (length (d .state .waits)) (d .changed) 0 (d .state) refl ∙ (change-fine (c .operation) s) .spends)
+  where
+    eleven : (n : ℕ) → member n refusalNumbers ≡ true → eqb n 11 ≡ false
+    eleven n e = refused-not n 11 refl e
 
 -- on a state nobody answers 9
 pub never-corrupt : (wakeUp : List ℕ → State → Woken) (s : State) (c : Call) → (perform wakeUp s c) .answer ≡ 9 → ⊥

@@ -11,11 +11,11 @@ use lib.ListN.{length, getD, set, replicate, take, drop, length-append, List·ge
 use lib.Seq.{sets, sets-eq, getD-append-add, take-append-add, drop-append-add, drop-at, set-append-left, getD-take, length-take-le}
 use lib.Dec.{eqb}
 use borrow.Author.Tests.{ltb-false, eqb-true, eqb-false, not-true}
-use Rattle.model.specs.Basics.{bit, tabulate, joined}
+use Rattle.model.specs.Basics.{bit, tabulate, joined, overwrite}
 use Rattle.model.specs.Layout.{objectSize, headerSize, waitSize, waitsBase, tableLength, objectCells, modeCell, waitCells, encode, objectOf, inObject, inWait, waitOf, view, distinctTickets}
 use Rattle.model.specs.Sizes.{objectPlaces, waitPlaces, maxListed}
 use Rattle.model.specs.Objects.{Object, empty, semaphore, mutex, event}
-use Rattle.model.specs.Steps.{_isIn_}
+use Rattle.model.specs.Notions.{_isIn_}
 use Rattle.model.specs.Waits.{Mode, any, all, Wait, WaitPlace, free, waiting, State, withObjects, withWaits, objectAt, putObject, dequeue, anyWaiting}
 use Rattle.model.proofs.Logic.{byBool, differ, and-split, eqb-same, passed}
 use Rattle.model.proofs.Valid.{Valid, waiting-none}
@@ -193,10 +193,14 @@ place-ok s g i = go (s .waits) i (λ w m. ((g .tickets w m) .0, (let (t0, (t1, (
     go (waiting v ∷ ws) (suc i) h = go ws i (λ w m. h w (inr m))
 
 -- VALID STATES ARE WHAT THEIR TABLES SHOW
+pub view-objects : (s : State) → length (s .objects) ≡ objectPlaces → (view (encode s)) .objects ≡ s .objects
+unfolding view
+view-objects s full = tabulate-is empty (s .objects) objectPlaces (viewObject (encode s)) full (view-object s)
+
 pub view-encode : (s : State) → Valid s → view (encode s) ≡ s
 unfolding view
 view-encode s g =
-    let o : tabulate objectPlaces (viewObject (encode s)) ≡ s .objects = tabulate-is empty (s .objects) objectPlaces (viewObject (encode s)) (g .places) (view-object s) in
+    let o : tabulate objectPlaces (viewObject (encode s)) ≡ s .objects = view-objects s (g .places) in
     let w : tabulate waitPlaces (viewWait (encode s)) ≡ s .waits = tabulate-is free (s .waits) waitPlaces (viewWait (encode s)) (g .slots)
     (λ i h. waitOf-cells (getD (s .waits) i free) (place-ok s g i) (inWait (encode s) i) (λ j l. read-wait s i j (g .places) h l)) in
     let n : getD (encode s) 0 0 ≡ s .next = read-next s in
@@ -239,6 +243,24 @@ set-right (x ∷ l) r i v = rw (suc-add (length l) i) (ap (λ (q : List ℕ). x 
 pub sets-right : (l r vs : List ℕ) (i : ℕ) → sets (l ++ r) (length l + i) vs ≡ l ++ sets r i vs
 sets-right l r [] i = refl
 sets-right l r (v ∷ vs) i = rw (set-right l r i v, ← (add-suc (length l) i)) (sets-right l (set r i v) vs (suc i))
+
+-- cells written behind a front that took the place of the first cells
+sets-none : (vs : List ℕ) (i : ℕ) → sets [] i vs ≡ []
+sets-none [] i = refl
+sets-none (v ∷ vs) i = sets-none vs (suc i)
+
+pub overwrite-more : (front cells vs : List ℕ) → sets (overwrite front cells) (length front) vs ≡ overwrite (front ++ vs) cells
+overwrite-more [] cells [] = refl
+overwrite-more [] [] (v ∷ vs) = sets-none vs 1
+overwrite-more [] (c ∷ cells) (v ∷ vs) = sets-behind vs cells v 0 ∙ ap (λ (q : List ℕ). v ∷ q) (overwrite-more [] cells vs)
+overwrite-more (x ∷ front) [] vs = sets-none vs (suc (length front))
+overwrite-more (x ∷ front) (c ∷ cells) vs = sets-behind vs (overwrite front cells) x (length front) ∙ ap (λ (q : List ℕ). x ∷ q) (overwrite-more front cells vs)
+
+-- and such a front stands there where there are as many cells
+pub overwrite-front : (front cells : List ℕ) → length front ≤ length cells → (take (length front) (overwrite front cells) ≡ front) × (length (overwrite front cells) ≡ length cells)
+overwrite-front [] cells l = (refl, refl)
+overwrite-front (x ∷ front) [] l = absurd (let z : ⊥ = omega arith in z)
+overwrite-front (x ∷ front) (c ∷ cells) l = let r = overwrite-front front cells (omega arith) in (ap (λ (q : List ℕ). x ∷ q) (r .0), ap suc (r .1))
 
 pub write-wait : (s : State) (i : ℕ) (x : WaitPlace) → length (s .objects) ≡ objectPlaces → i < length (s .waits)
     → encode (withWaits s (set (s .waits) i x)) ≡ sets (encode s) (waitCell i) (waitCells x)

@@ -12,7 +12,8 @@ use borrow.Author.Tests.{eqb-true, eqb-false, not-true, ne-eqb}
 use Rattle.model.specs.Basics.{member, All}
 use Rattle.model.specs.Calls.{Signal, post, unlock, kill, setEvent, pulseEvent, Operation, create, close, resetEvent, read, signal, wait, expire, cancel, snapshot, Call, clearsAfter, newObject, newHandle, listTooShort, waitFaults, timeUp, newWait, enqueue, refusals, Change, admits, endEach, change}
 use Rattle.model.specs.Objects.{Object, empty, signaled, acquired}
-use Rattle.model.specs.Steps.{libraryStep, _isIn_, takenListed, takenBy, touched}
+use Rattle.model.specs.Steps.{libraryStep}
+use Rattle.model.specs.Notions.{_isIn_, takenListed, takenBy, touched}
 use Rattle.model.specs.Waits.{Mode, any, all, Wait, WaitPlace, free, waiting, State, withWaits, objectAt, putObject, Grant, allSignaled, look, attempt, acquireEach, anyAbandoned, servedAnswer, dequeue, oldest, concernedBy, Report, serve, tryToServe, walkQueue, wakeByWalk}
 use Rattle.model.proofs.History.{endEach-objects}
 use Rattle.model.proofs.Waking.{after, walk-keeps, walk-nothing}
@@ -56,7 +57,7 @@ grant-taken os w t l e = byOption (look (w .mode) (w .owner) os (w .list))
     (λ f. differ (let q : none ≡ some t = rw (n, f) at e in cc)))
     (λ x s. let q : some x ≡ some t = rw s at e in let r = look-taken (w .mode) (w .owner) os (w .list) t l (s ∙ q) in let a = r .0 in rw a (r .1))
 
-acquireEach-other : (o : ℕ) (os : List Object) (hs : List ℕ) (k : ℕ) → member k hs ≡ false → objectAt (acquireEach o os hs) k ≡ objectAt os k
+pub acquireEach-other : (o : ℕ) (os : List Object) (hs : List ℕ) (k : ℕ) → member k hs ≡ false → objectAt (acquireEach o os hs) k ≡ objectAt os k
 unfolding acquireEach member
 acquireEach-other o os [] k n = refl
 acquireEach-other o os (h ∷ hs) k n = let r = or-split (eqb k h) (member k hs) n in
@@ -166,7 +167,7 @@ clears-signal (kill o) k h j n = refl
 clears-signal setEvent k h j n = refl
 clears-signal pulseEvent k h j n = put-same j h k _ n
 
-clears-none : (w : Wait) (time : ℕ) (s : State) → (admits w time s) .clears ≡ 0
+pub clears-none : (w : Wait) (time : ℕ) (s : State) → (admits w time s) .clears ≡ 0
 unfolding admits
 clears-none w time s = byOption (attempt (s .objects) w) (λ e. rw e (byBool (timeUp (w .timeout) time) (λ u. rw u) (λ u. rw u))) (λ t e. rw e)
 
@@ -183,11 +184,11 @@ clears-same (cancel t) s h j n = refl
 clears-same snapshot s h j n = refl
 
 -- a change that wakes leaves the queue as it is
-admits-quietly : (w : Wait) (time : ℕ) (s : State) → (admits w time s) .changed ≡ []
+pub admits-quietly : (w : Wait) (time : ℕ) (s : State) → (admits w time s) .changed ≡ []
 unfolding admits
 admits-quietly w time s = byOption (attempt (s .objects) w) (λ e. rw e (byBool (timeUp (w .timeout) time) (λ u. rw u) (λ u. rw u))) (λ t e. rw e)
 
-change-queue : (op : Operation) (s : State) → ((change op s) .changed ≡ []) ⊎ (((change op s) .state .waits ≡ s .waits) × ((change op s) .reports ≡ []))
+pub change-queue : (op : Operation) (s : State) → ((change op s) .changed ≡ []) ⊎ (((change op s) .state .waits ≡ s .waits) × ((change op s) .reports ≡ []))
 unfolding change
 change-queue (create k x y) s = inl refl
 change-queue (close h) s = inl refl

@@ -9,18 +9,19 @@ use lib.ListN.{length, replicate, length-replicate}
 use lib.Dec.{eqb, lit<}
 use borrow.Author.Tests.{eqb-true, eqb-false}
 use Rattle.model.specs.Basics.{member}
-use Rattle.model.specs.Calls.{Operation, create, close, resetEvent, read, signal, wait, expire, cancel, snapshot, Call, newObject, newHandle, waitFaults, timeUp, newWait, refusals, Change, admits, endEach, change, Fits}
+use Rattle.model.specs.Calls.{Operation, create, close, resetEvent, read, signal, wait, expire, cancel, snapshot, Call, newObject, newHandle, waitFaults, timeUp, newWait, refusals, Change, admits, endEach, change, WithinWidths}
 use Rattle.model.specs.Layout.{validObject, distinctTickets}
 use Rattle.model.specs.Sizes.{objectPlaces, waitPlaces}
 use Rattle.model.specs.Objects.{Object, empty, occupied, cleared}
-use Rattle.model.specs.Steps.{conditions, firstRefusal, libraryStep, referenceStep, _isIn_, Quiet}
+use Rattle.model.specs.Steps.{conditions, firstRefusal, libraryStep, referenceStep}
+use Rattle.model.specs.Notions.{_isIn_, Quiet}
 use Rattle.model.specs.Waits.{Wait, free, State, initial, withObjects, withWaits, objectAt, putAt, putObject, attempt, servable, dequeue, oldest, namedBy, wakeByWalk, wakeBySearch}
 use Rattle.model.proofs.Waking.{Unaffected, search-quiet, walking-is-searching}
-use Rattle.model.proofs.Logic.{byBool, byOption, clash, fault-free}
+use Rattle.model.proofs.Logic.{byBool, byOption, clash, or-split, fault-free}
 use Rattle.model.proofs.Rules.{Accepted, accepted, clear, due, perform-case, reset-less, cleared-less, new-place}
 use Rattle.model.proofs.Acquiring.{signaled-mine, at-put-other, Less, put-less, acquireEach-less, attempt-signaled, servable-mono}
 use Rattle.model.proofs.Valid.{Valid, change-valid, step-valid, named-there, valid-consistent}
-use Rattle.model.proofs.Queue.{dequeue-in, count-length, enqueue-in, concerned-one}
+use Rattle.model.proofs.Queue.{dequeue-in, count-length, enqueue-in, unconcerned}
 
 -- what a history keeps
 pub record Settled (s : State) : Type 0 where
@@ -35,8 +36,13 @@ put-other : (s : State) (h : ℕ) (x : Object) (w : Wait) → member h (namedBy 
 put-other s h x w n q = servable-mono (putAt (s .objects) h x) (s .objects) w
     (λ k i e. let d : eqb k h ≡ false = byBool (eqb k h) (λ t. clash i (rw (eqb-true k h t) n)) (λ f. f) in rw (at-put-other (s .objects) h x k d) at e) q
 
+-- objects change at these places only, and no wait that names none of them can be served by that
+objects-unaffected : (s : State) (os : List Object) (hs : List ℕ) → ((k : ℕ) → member k hs ≡ false → objectAt os k ≡ objectAt (s .objects) k) → Quiet s → Unaffected hs (withObjects s os)
+objects-unaffected s os hs same q w m n = servable-mono os (s .objects) w (λ k i e. rw (same k (unconcerned hs w n k i)) at e) (q w m)
+
 put-unaffected : (s : State) (h : ℕ) (x : Object) → Quiet s → Unaffected (h ∷ []) (putObject s h x)
-put-unaffected s h x q w m n = put-other s h x w (concerned-one h w n) (q w m)
+unfolding member
+put-unaffected s h x q = objects-unaffected s (putAt (s .objects) h x) (h ∷ []) (λ k n. at-put-other (s .objects) h x k ((or-split (eqb k h) false n) .0)) q
 
 create-quiet : (s : State) (x : Object) → Valid s → Quiet s → Quiet (putObject s (newHandle s) x)
 create-quiet s x g q w m = let r = new-place s in let v = r .0 in let z = r .1 in
@@ -84,26 +90,26 @@ clear-quiet : (h : ℕ) (s : State) → Quiet s → Quiet (clear h s)
 clear-quiet h s q = less-quiet s _ (put-less (s .objects) h (cleared (objectAt (s .objects) h)) (λ p. cleared-less p (objectAt (s .objects) h))) q
 
 -- the walk of a change is the search
-same-waking : (s : State) (c : Call) → Fits c → Settled s → Accepted (conditions c s)
+same-waking : (s : State) (c : Call) → WithinWidths c → Settled s → Accepted (conditions c s)
     → wakeByWalk ((change (c .operation) s) .changed) ((change (c .operation) s) .state) ≡ wakeBySearch ((change (c .operation) s) .changed) ((change (c .operation) s) .state)
 same-waking s c fit t a = let d : Change = change (c .operation) s in
     walking-is-searching (d .changed) (d .state) (valid-consistent (d .state) (change-valid (c .operation) (c .lent) s fit (a .1) (t .valid))) (change-unaffected (c .operation) s (a .1) t)
 
 -- EACH CALL: the same outcome
-pub step-same : (s : State) (c : Call) → Fits c → Settled s → libraryStep s c ≡ referenceStep s c
+pub step-same : (s : State) (c : Call) → WithinWidths c → Settled s → libraryStep s c ≡ referenceStep s c
 unfolding libraryStep referenceStep
 step-same s c fit t = byOption (firstRefusal (conditions c s))
     (λ e. rw (e, same-waking s c fit t (accepted (conditions c s) e)))
     (λ n e. rw e)
 
-step-quiet : (s : State) (c : Call) → Fits c → Settled s → Quiet ((referenceStep s c) .held)
+step-quiet : (s : State) (c : Call) → WithinWidths c → Settled s → Quiet ((referenceStep s c) .held)
 unfolding referenceStep
 step-quiet s c fit t = perform-case wakeBySearch s c (λ o. Quiet (o .held)) (λ n e. t .quiet)
     (λ a. let d : Change = change (c .operation) s in clear-quiet (d .clears) ((wakeBySearch (d .changed) (d .state)) .state)
     (search-quiet (length (d .state .waits)) (d .state) (valid-consistent (d .state) (change-valid (c .operation) (c .lent) s fit (a .1) (t .valid))) (count-length _ (d .state .waits))))
 
 -- and again a settled state
-pub step-settled : (s : State) (c : Call) → Fits c → Settled s → Settled ((referenceStep s c) .held)
+pub step-settled : (s : State) (c : Call) → WithinWidths c → Settled s → Settled ((referenceStep s c) .held)
 step-settled s c fit t = record {
   valid = rw (← (step-same s c fit t)) (step-valid s c fit (t .valid));
   quiet = step-quiet s c fit t;

@@ -14,5 +14,7 @@ pub mod Frame
 pub mod Digits
 pub mod SnapshotLength
 pub mod Answers
+pub mod Reports
 pub mod Tables
 pub mod Theorems
+pub mod TableReadings

@@ -16,11 +16,11 @@ use Rattle.model.specs.Layout.{objectSize, headerSize, waitSize, waitsBa
 use Rattle.model.specs.Sizes.{objectPlaces, waitPlaces, maxListed, word32, word64}
 use Rattle.model.specs.Objects.{Object, empty, semaphore, mutex, event, occupied, isEvent, abandoned}
 use Rattle.model.specs.ValidCells.{Occupied, OfEvent, ValidObject, ValidWait, ValidCells}
-use Rattle.model.specs.Steps.{_isIn_}
+use Rattle.model.specs.Notions.{_isIn_}
 use Rattle.model.specs.Waits.{Mode, any, all, Wait, WaitPlace, free, waiting, State, objectAt, anyWaiting}
-use Rattle.model.proofs.Logic.{byBool, clash, differ, and-split, or-left, or-right, or-split, eqb-same, passed, pass}
+use Rattle.model.proofs.Logic.{byBool, clash, differ, and-split, or-left, or-right, or-split, eqb-same, member-at, at-member, passed, pass}
 use Rattle.model.proofs.Validity.{tables-valid, encoded-valid}
-use Rattle.model.proofs.Valid.{Valid, none-waiting, waiting-none, allOccupied-in, event-occupied}
+use Rattle.model.proofs.Valid.{Valid, in-places, none-waiting, waiting-none, allOccupied-in, event-occupied}
 use Rattle.model.proofs.Cells.{objectCell, waitCell, read-object, flag, viewObject, viewWait, read-wait, encode-length, read-next, at-in, in-at, byPlace, Holds, holds, free-cell, ticket-is, mode-is, owner-is, clock-is, timeout-is, count-is, alert-is, list-is, rest-is}
 
 eqb-nonzero : (n : ℕ) → 0 < n → eqb n 0 ≡ false
@@ -153,13 +153,6 @@ kind-event (semaphore c m) e = absurd (let z : ⊥ = omega arith in z)
 kind-event (mutex o c a) e = absurd (let z : ⊥ = omega arith in z)
 kind-event (event s m) e = refl
 
--- an occupied handle is a handle
-pub in-places : (os : List Object) (h : ℕ) → occupied (objectAt os h) ≡ true → (1 ≤ h) × (h ≤ length os)
-in-places os zero e = clash e refl
-in-places [] (suc i) e = clash e refl
-in-places (x ∷ xs) (suc zero) e = (omega arith, omega arith)
-in-places (x ∷ xs) (suc (suc i)) e = let r = in-places xs (suc i) e in let a : suc i ≤ length xs = r .1 in (omega arith, omega arith)
-
 module _ (s : State) (full : length (s .objects) ≡ objectPlaces) where
   kind-at : (h : ℕ) → 1 ≤ h → h ≤ objectPlaces → inObject (encode s) (h - 1) 0 ≡ kindCell (objectAt (s .objects) h)
   kind-at zero l b = absurd (let z : ⊥ = omega arith in z)
@@ -180,18 +173,6 @@ module _ (s : State) (full : length (s .objects) ≡ objectPlaces) where
   line-event h o = kind-event (objectAt (s .objects) h) (sym (kind-at h (o .low) (o .high)) ∙ o .kind)
 
 -- LISTS
-pub member-at : (a : ℕ) (hs : List ℕ) → member a hs ≡ true → (k : ℕ) × (k < length hs) × (getD hs k 0 ≡ a)
-unfolding member
-member-at a [] e = clash e refl
-member-at a (h ∷ hs) e = byBool (eqb a h) (λ y. (0, omega arith, sym (eqb-true a h y)))
-    (λ n. let r = member-at a hs (rw n at e) in let l : r .0 < length hs = r .1 in (suc (r .0), omega arith, r .2))
-
-pub at-member : (a : ℕ) (hs : List ℕ) (k : ℕ) → k < length hs → getD hs k 0 ≡ a → member a hs ≡ true
-unfolding member
-at-member a [] k l e = absurd (let z : ⊥ = omega arith in z)
-at-member a (h ∷ hs) zero l e = or-left (eqb a h) (member a hs) (rw e (eqb-same a))
-at-member a (h ∷ hs) (suc k) l e = or-right (eqb a h) (member a hs) (at-member a hs k (omega arith) e)
-
 -- no number stands at two places
 abbrev pub Once : List ℕ → Type 0
 Once hs = (j k : ℕ) → j < k → k < length hs → getD hs j 0 ≡ getD hs k 0 → ⊥

@@ -3,12 +3,12 @@ use mathlib.Core.Path.{_≡_, refl, sym}
 use mathlib.Core.Bool.{Bool, true, false, not, _&&_, _||_}
 use mathlib.Core.List.{List, [], _∷_}
 use mathlib.Core.Option.{Option, none, some}
-use Prim.Native.Nat.{ℕ, zero, suc}
+use Prim.Native.Nat.{ℕ, zero, suc, _<_}
 use native.Mathlib.Omega.{arith}
-use lib.ListN.{getD}
+use lib.ListN.{length, getD}
 use lib.Dec.{eqb}
-use borrow.Author.Tests.{eq-eqb}
-use Rattle.model.specs.Basics.{maybe, anyOf, allOf}
+use borrow.Author.Tests.{eq-eqb, eqb-true}
+use Rattle.model.specs.Basics.{maybe, anyOf, allOf, member}
 
 pub byBool {ℓ} : {P : Type ℓ} (b : Bool) → (b ≡ true → P) → (b ≡ false → P) → P
 byBool true t f = t refl
@@ -80,6 +80,19 @@ or-split false b e = (refl, e)
 
 pub eqb-same : (n : ℕ) → eqb n n ≡ true
 eqb-same n = eq-eqb n n refl
+
+-- members by their index
+pub member-at : (a : ℕ) (hs : List ℕ) → member a hs ≡ true → (k : ℕ) × (k < length hs) × (getD hs k 0 ≡ a)
+unfolding member
+member-at a [] e = clash e refl
+member-at a (h ∷ hs) e = byBool (eqb a h) (λ y. (0, omega arith, sym (eqb-true a h y)))
+    (λ n. let r = member-at a hs (rw n at e) in let l : r .0 < length hs = r .1 in (suc (r .0), omega arith, r .2))
+
+pub at-member : (a : ℕ) (hs : List ℕ) (k : ℕ) → k < length hs → getD hs k 0 ≡ a → member a hs ≡ true
+unfolding member
+at-member a [] k l e = absurd (let z : ⊥ = omega arith in z)
+at-member a (h ∷ hs) zero l e = or-left (eqb a h) (member a hs) (rw e (eqb-same a))
+at-member a (h ∷ hs) (suc k) l e = or-right (eqb a h) (member a hs) (at-member a hs k (omega arith) e)
 
 -- lists of tests, test by test
 abbrev pub Passed : List Bool → Type 0

@@ -9,10 +9,10 @@ use native.Mathlib.Omega.{arith}
 use native.Mathlib.Nat.{le-refl, le-trans, le-antisymm}
 use lib.ListN.{length}
 use lib.Dec.{eqb, ltb}
-use borrow.Author.Tests.{ltb-true, ltb-false, eqb-false}
+use borrow.Author.Tests.{ltb-true, ltb-false, eqb-true, eqb-false}
 use Rattle.model.specs.Basics.{member}
 use Rattle.model.specs.Calls.{enqueue}
-use Rattle.model.specs.Steps.{_isIn_}
+use Rattle.model.specs.Notions.{_isIn_}
 use Rattle.model.specs.Waits.{Wait, WaitPlace, free, waiting, dequeue, lowerTicket, oldest, namedBy, concernedBy}
 use Rattle.model.proofs.Logic.{byBool, byOption, clash, differ, or-split}
 
@@ -153,6 +153,13 @@ unfolding enqueue
 enqueue-in w [] v m = absurd m
 enqueue-in w (free ∷ ws) v m = m
 enqueue-in w (waiting u ∷ ws) v m = ⊎-elim (λ (p : v ≡ u). inr (inl p)) (λ (k : v isIn enqueue w ws). ⊎-elim (λ p. inl p) (λ j. inr (inr j)) (enqueue-in w ws v k)) m
+
+-- a wait that is not concerned names none of the changed objects
+pub unconcerned : (cs : List ℕ) (w : Wait) → concernedBy cs w ≡ false → (k : ℕ) → member k (namedBy w) ≡ true → member k cs ≡ false
+unfolding concernedBy member
+unconcerned [] w n k i = refl
+unconcerned (c ∷ cs) w n k i = let r = or-split (member c (namedBy w)) (concernedBy cs w) n in
+    let d : eqb k c ≡ false = byBool (eqb k c) (λ t. clash (let z = eqb-true k c t in rw (← z) i) (r .0)) (λ f. f) in rw (d, unconcerned cs w (r .1) k i)
 
 pub concerned-one : (h : ℕ) (w : Wait) → concernedBy (h ∷ []) w ≡ false → member h (namedBy w) ≡ false
 unfolding concernedBy

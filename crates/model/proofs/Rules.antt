@@ -44,12 +44,14 @@ perform-case wakeUp s c P r a = byOption (firstRefusal (conditions c s))
 
 -- what waits and validity ask of an object goes on to hold
 pub record Keeps (x y : Object) : Type 0 where
+  pub was : occupied x ≡ true
   pub there : occupied y ≡ true
   pub event : isEvent x implies isEvent y
   pub valid : validObject x implies validObject y
 
 post-keeps : (c m add : ℕ) → ltb m (c + add) ≡ false → Keeps (semaphore c m) (semaphore (c + add) m)
 post-keeps c m add e = record {
+  was = refl;
   there = refl;
   event = λ z. z;
   valid = λ g. let (t0, (t1, t2)) = passed (leb c m ∷ ltb m word32 ∷ []) g in pass _ (le-leb (c + add) m (ltb-false m (c + add) e), (t1, tt));
@@ -57,6 +59,7 @@ post-keeps c m add e = record {
 
 unlock-keeps : (o c : ℕ) (a : Bool) → (o ≡ 0 → ⊥) → Keeps (mutex o c a) (mutex (cond (eqb c 1) 0 o) (pred c) a)
 unlock-keeps o c a z = record {
+  was = refl;
   there = refl;
   event = λ e. e;
   valid = λ g. let (t0, (t1, (t2, (t3, t4)))) = passed (ltb o word32 ∷ ltb c word32 ∷ eqb (bit (eqb o 0)) (bit (eqb c 0)) ∷ (not a || eqb o 0) ∷ []) g in
@@ -75,7 +78,7 @@ holder : (asking o : ℕ) → eqb asking 0 ≡ false → not (eqb o asking) ≡ 
 holder asking o n h z = eqb-false asking 0 n (sym (eqb-true o asking (not-false _ h)) ∙ z)
 
 event-keeps : (v m w : Bool) → Keeps (event v m) (event w m)
-event-keeps v m w = record { there = refl; event = λ e. e; valid = λ g. g }
+event-keeps v m w = record { was = refl; there = refl; event = λ e. e; valid = λ g. g }
 
 pub signal-keeps : (how : Signal) (x : Object) → Accepted ((signalRule how x) .refusals) → Keeps x ((signalRule how x) .next)
 signal-keeps (post add) empty h = clash refl (h .0)
@@ -88,7 +91,7 @@ signal-keeps (unlock asking) (mutex o c a) h = unlock-keeps o c a (holder asking
 signal-keeps (unlock asking) (event v m) h = clash refl (h .0)
 signal-keeps (kill asking) empty h = clash refl (h .0)
 signal-keeps (kill asking) (semaphore c m) h = clash refl (h .0)
-signal-keeps (kill asking) (mutex o c a) h = record { there = refl; event = λ e. e; valid = λ g. pass _ (refl, (refl, (refl, (refl, tt)))) }
+signal-keeps (kill asking) (mutex o c a) h = record { was = refl; there = refl; event = λ e. e; valid = λ g. pass _ (refl, (refl, (refl, (refl, tt)))) }
 signal-keeps (kill asking) (event v m) h = clash refl (h .0)
 signal-keeps setEvent empty h = clash refl (h .0)
 signal-keeps setEvent (semaphore c m) h = clash refl (h .0)

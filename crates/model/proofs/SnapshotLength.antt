@@ -17,13 +17,12 @@ use Rattle.model.specs.Snapshot.{ascii, digitsUpTo, line, objectText, ob
 use Rattle.model.specs.Layout.{validObject, validWait, distinctTickets}
 use Rattle.model.specs.Sizes.{objectPlaces, waitPlaces, maxListed, word32, word64, mutexCeiling, never, snapshotBuffer, longestSnapshot}
 use Rattle.model.specs.Objects.{Object, empty, semaphore, mutex, event, occupied, isEvent}
-use Rattle.model.specs.Steps.{_isIn_}
+use Rattle.model.specs.Notions.{_isIn_}
 use Rattle.model.specs.Waits.{Mode, any, all, Wait, WaitPlace, waiting, State, objectAt, oldest}
 use Rattle.model.proofs.Digits.{digits, digits-bound, digits-u32, digits-u64}
 use Rattle.model.proofs.Logic.{byBool, byOption, clash, and-split, passed}
 use Rattle.model.proofs.Validity.{test-valid}
-use Rattle.model.proofs.Literal.{in-places}
-use Rattle.model.proofs.Valid.{Valid, AllValid, event-occupied}
+use Rattle.model.proofs.Valid.{Valid, AllValid, in-places, event-occupied}
 use Rattle.model.proofs.Queue.{oldest-none, oldest-some}
 
 -- a text of at most a bytes, a number of at most d digits

@@ -11,11 +11,12 @@ use lib.ListN.{length, getD, length-set}
 use lib.Dec.{eqb, ltb, leb, eqb·suc-zero}
 use borrow.Author.Tests.{ltb-true, ltb-false, leb-true, leb-false, eqb-true, eqb-false, not-true, not-false, lt-ltb, le-leb, ne-eqb}
 use Rattle.model.specs.Basics.{anyOf, member, hasRepeat}
-use Rattle.model.specs.Calls.{Operation, create, close, resetEvent, read, signal, wait, expire, cancel, snapshot, Lent, Call, newObject, newHandle, allOccupied, repeats, waitFaults, timeUp, newWait, mustQueue, enqueue, refusals, Change, admits, endEach, change, Fits}
+use Rattle.model.specs.Calls.{Operation, create, close, resetEvent, read, signal, wait, expire, cancel, snapshot, Lent, Call, newObject, newHandle, allOccupied, repeats, waitFaults, timeUp, newWait, mustQueue, enqueue, refusals, Change, admits, endEach, change, WithinWidths}
 use Rattle.model.specs.Layout.{validObject, validWait, distinctTickets}
-use Rattle.model.specs.Sizes.{objectPlaces, waitPlaces, word32, word64, mutexCeiling}
+use Rattle.model.specs.Sizes.{objectPlaces, waitPlaces, word32, word64, ticketsEnd, mutexCeiling}
 use Rattle.model.specs.Objects.{Object, empty, semaphore, mutex, event, occupied, isEvent, signaled, acquired, cleared}
-use Rattle.model.specs.Steps.{libraryStep, _isIn_}
+use Rattle.model.specs.Steps.{libraryStep}
+use Rattle.model.specs.Notions.{_isIn_}
 use Rattle.model.specs.Waits.{Mode, any, all, Wait, WaitPlace, free, waiting, State, withObjects, withWaits, objectAt, putAt, putObject, Grant, lowestSignaled, allSignaled, look, attempt, acquireEach, dequeue, oldest, anyWaiting, namedBy, concernedBy, walkQueue, wakeByWalk}
 use Rattle.model.proofs.Waking.{Consistent, walk-keeps}
 use Rattle.model.proofs.Logic.{byBool, byOption, isSome, clash, differ, _implies_, and-split, or-left, or-right, or-mono, or-split, eqb-same, passed, pass, fault-free}
@@ -257,6 +258,13 @@ endEach-valid zero f s g = g
 endEach-valid (suc n) f s g = byOption (oldest f (s .waits)) (λ e. rw e g)
     (λ w e. rw e (endEach-valid n f (withWaits s (dequeue (w .ticket) (s .waits))) (valid-dequeue s (w .ticket) g)))
 
+-- an occupied handle is a handle
+pub in-places : (os : List Object) (h : ℕ) → occupied (objectAt os h) ≡ true → (1 ≤ h) × (h ≤ length os)
+in-places os zero e = clash e refl
+in-places [] (suc i) e = clash e refl
+in-places (x ∷ xs) (suc zero) e = (omega arith, omega arith)
+in-places (x ∷ xs) (suc (suc i)) e = let r = in-places xs (suc i) e in let a : suc i ≤ length xs = r .1 in (omega arith, omega arith)
+
 -- EVERY CHANGE of a call that is not refused leaves a valid state
 create-valid : (s : State) (x : Object) → Valid s → validObject x ≡ true → Valid (putObject s (newHandle s) x)
 create-valid s x g e = valid-put s (newHandle s) x g e
@@ -290,11 +298,11 @@ new-wait-valid mode hs o f p a t s lo lt e =
     )
 
 admits-valid : (w : Wait) (time : ℕ) (s : State) → Valid s → validWait (s .objects) w ≡ true → w .ticket ≡ s .next
-    → (mustQueue w time s && leb word64 (suc (s .next))) ≡ false → Valid ((admits w time s) .state)
+    → (mustQueue w time s && eqb (s .next) ticketsEnd) ≡ false → Valid ((admits w time s) .state)
 unfolding admits
 admits-valid w time s g v k r = byOption (attempt (s .objects) w)
     (λ e. rw e (byBool (timeUp (w .timeout) time) (λ t. rw t g)
-    (λ f. let left : leb word64 (suc (s .next)) ≡ false = (let q : (not (isSome (attempt (s .objects) w)) && not (timeUp (w .timeout) time) && leb word64 (suc (s .next))) ≡ false = r in rw (e, f) at q) in rw f record {
+    (λ f. let left : eqb (s .next) ticketsEnd ≡ false = (let q : (not (isSome (attempt (s .objects) w)) && not (timeUp (w .timeout) time) && eqb (s .next) ticketsEnd) ≡ false = r in rw (e, f) at q) in rw f record {
       places = g .places;
       slots = length-enqueue w (s .waits) ∙ g .slots;
       objects = g .objects;
@@ -302,11 +310,11 @@ admits-valid w time s g v k r = byOption (attempt (s .objects) w)
       tickets = λ u m. ⊎-elim (λ (p : u ≡ w). let z = g .started in rw (p, k) (omega arith)) (λ (j : u isIn s .waits). let z = g .tickets u j in (z .0, (let q : u .ticket < s .next = z .1 in omega arith))) (enqueue-in w (s .waits) u m);
       distinct = distinct-enqueue w (s .waits) (λ u m q. let z : u .ticket < s .next = (g .tickets u m) .1 in let w′ : ⊥ = omega arith in w′) (g .distinct);
       started = let z = g .started in omega arith;
-      bounded = leb-false word64 (suc (s .next)) left;
+      bounded = let z = g .bounded in let y : s .next ≡ ticketsEnd → ⊥ = eqb-false (s .next) ticketsEnd left in omega (arith, y);
     })))
     (λ t e. rw e (valid-take s w t g v e))
 
-pub change-valid : (op : Operation) (l : Lent) (s : State) → Fits (record { operation = op; lent = l }) → Accepted (refusals op s) → Valid s → Valid ((change op s) .state)
+pub change-valid : (op : Operation) (l : Lent) (s : State) → WithinWidths (record { operation = op; lent = l }) → Accepted (refusals op s) → Valid s → Valid ((change op s) .state)
 unfolding refusals change
 change-valid (create k x y) l s fit a g = create-valid s (newObject k x y) g (new-valid k x y (fit .0 .0) (fit .0 .1 .0) (a .0))
 change-valid (close h) l s fit a g = close-valid h s g (a .1 .0)
@@ -319,7 +327,7 @@ change-valid (cancel t) l s fit a g = valid-dequeue s t g
 change-valid snapshot l s fit a g = g
 
 -- EVERY CALL leaves a valid state
-pub step-valid : (s : State) (c : Call) → Fits c → Valid s → Valid ((libraryStep s c) .held)
+pub step-valid : (s : State) (c : Call) → WithinWidths c → Valid s → Valid ((libraryStep s c) .held)
 unfolding libraryStep
 step-valid s c fit g = perform-case wakeByWalk s c (λ o. Valid (o .held)) (λ n e. g)
     (λ a. let d : Change = change (c .operation) s in valid-clear (d .clears) ((wakeByWalk (d .changed) (d .state)) .state)

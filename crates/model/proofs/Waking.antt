@@ -11,8 +11,8 @@ use lib.Dec.{eqb, ltb}
 use borrow.Author.Tests.{ltb-true, ltb-false, lt-ltb, le-ltb}
 use Rattle.model.specs.Basics.{member}
 use Rattle.model.specs.Objects.{Object, occupied}
-use Rattle.model.specs.Steps.{_isIn_, Quiet}
-use Rattle.model.specs.Waits.{Wait, WaitPlace, State, objectAt, Grant, attempt, servable, acquireEach, dequeue, oldest, namedBy, concernedBy, Woken, noneWoken, andThen, serve, tryToServe, walkQueue, searchQueue}
+use Rattle.model.specs.Notions.{_isIn_, Quiet}
+use Rattle.model.specs.Waits.{Wait, WaitPlace, State, withObjects, withWaits, objectAt, Grant, attempt, servable, acquireEach, dequeue, oldest, namedBy, concernedBy, Woken, noneWoken, andThen, serve, tryToServe, walkQueue, searchQueue}
 use Rattle.model.proofs.Logic.{byBool, byOption, isSome, clash, and-split, eqb-same}
 use Rattle.model.proofs.Acquiring.{signaled-mine, Less, acquireEach-less, acquireEach-occupied, attempt-signaled, servable-mono}
 use Rattle.model.proofs.Queue.{oldest-none, Oldest, oldest-some, Distinct, oldest-is, oldest-is-none, dequeue-in, count, count-length, count-zero, count-le, count-lt, count-dequeue}
@@ -35,7 +35,7 @@ abbrev pub Unaffected : List ℕ → State → Type 0
 Unaffected cs s = (w : Wait) → w isIn s .waits → concernedBy cs w ≡ false → servable (s .objects) w ≡ false
 
 abbrev pub after : Wait → Grant → State → State
-after w t s = record { objects = acquireEach (w .owner) (s .objects) (t .handles); waits = dequeue (w .ticket) (s .waits); next = s .next }
+after w t s = withWaits (withObjects s (acquireEach (w .owner) (s .objects) (t .handles))) (dequeue (w .ticket) (s .waits))
 
 pub taken-less : (s : State) → Consistent s → (w : Wait) → w isIn s .waits → (t : Grant) → attempt (s .objects) w ≡ some t → Less (acquireEach (w .owner) (s .objects) (t .handles)) (s .objects)
 taken-less s g w m t e = acquireEach-less (w .owner) (s .objects) (t .handles) (g .owners w m)

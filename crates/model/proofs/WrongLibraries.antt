@@ -11,12 +11,12 @@ use Rattle.model.specs.Sizes.{mutexCeiling, never, wakeLength}
 use Rattle.model.specs.Basics.{anyOf, member, hasRepeat, joined}
 use Rattle.model.specs.Objects.{Object, byKind, signaled, acquired}
 use Rattle.model.specs.Waits.{Mode, any, all, State, initial, withObjects, objectAt, putAt, lowestSignaled, allSignaled, look, attempt, acquireEach, anyAbandoned, dequeue, oldest, concernedBy, Woken, noneWoken, serve, tryToServe, walkQueue, wakeByWalk}
-use Rattle.model.specs.Calls.{Operation, create, close, resetEvent, read, signal, wait, expire, cancel, snapshot, aSemaphore, aMutex, anEvent, unlock, Call, asks, least, lowestEmpty, allOccupied, waitsFull, enqueue, refusals, admits, endEach, change}
+use Rattle.model.specs.Calls.{Operation, create, close, resetEvent, read, signal, wait, expire, cancel, snapshot, aSemaphore, aMutex, anEvent, unlock, Call, wakeLent, asks, least, lowestEmpty, allOccupied, waitsFull, enqueue, refusals, admits, endEach, change}
 use Rattle.model.specs.Steps.{Outcome, firstRefusal, records, perform, libraryStep, run}
 
 abbrev calls : List Operation → List Call
 calls [] = []
-calls (op ∷ ops) = asks op (replicate wakeLength 0) [] ∷ calls ops
+calls (op ∷ ops) = asks op (wakeLent (replicate wakeLength 0)) ∷ calls ops
 
 -- "Waking after unlock only when the count reaches zero."
 abbrev held : Object → Bool

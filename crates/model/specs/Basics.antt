@@ -1,14 +1,14 @@
 -- The answers, and general tools that say nothing of synchronization.
-use mathlib.Core.Bool.{Bool, true, false, _&&_, _||_, cond}
+use mathlib.Core.Bool.{Bool, true, false, _&&_, _||_}
 use mathlib.Core.List.{List, [], _∷_, _++_}
 use mathlib.Core.Option.{Option, none, some}
 use Prim.Native.Nat.{ℕ, zero, suc}
-use lib.ListN.{length, drop}
 use lib.Dec.{eqb}
 
 -- THE ANSWERS (document 01, "What the caller hears")
 pub data Answer : Type 0 where
-  done invalid notOwner overflow ownerDead timedOut interrupted noRoom ticketsSpent corrupt busy queued listShort : Answer
+  done invalid notOwner overflow ownerDead timedOut interrupted : Answer
+  noRoom ticketsSpent corrupt busy queued listShort : Answer
 
 abbrev pub number : Answer → ℕ
 number done = 0  -- "the call took effect"
@@ -68,6 +68,8 @@ abbrev pub All {ℓ} : {A : Type ℓ} → (A → Type 0) → List A → Type 0
 All P [] = Unit {0}
 All P (x ∷ xs) = P x × All P xs
 
--- the front takes the place of as many cells; the rest is unaltered
+-- the front takes the place of as many cells, of those that there are; the rest is unaltered
 abbrev pub overwrite : List ℕ → List ℕ → List ℕ
-overwrite front cells = front ++ drop (length front) cells
+overwrite [] cells = cells
+overwrite (x ∷ front) [] = []
+overwrite (x ∷ front) (c ∷ cells) = x ∷ overwrite front cells

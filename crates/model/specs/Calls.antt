@@ -1,13 +1,16 @@
 -- Every call: what it is lent, its refusals in order, and its change without the walk (document 01, "Calls").
 use mathlib.Core.Bool.{Bool, true, false, not, _&&_, _||_, cond}
-use mathlib.Core.List.{List, [], _∷_, _++_}
+use mathlib.Core.List.{List, [], _∷_}
 use Prim.Native.Nat.{ℕ, zero, suc, pred, _+_, _<_}
 use lib.ListN.{length}
 use lib.Dec.{eqb, ltb, leb}
-use Rattle.model.specs.Sizes.{maxListed, word32, word64, never, wakeLength, snapshotBuffer}
-use Rattle.model.specs.Basics.{maybe, bit, anyOf, hasRepeat, All, Answer, number, done, invalid, notOwner, overflow, ownerDead, timedOut, interrupted, noRoom, ticketsSpent, busy, queued}
+use Rattle.model.specs.Sizes.{maxListed, word32, word64, never, ticketsEnd, wakeLength, snapshotBuffer}
+use Rattle.model.specs.Basics.{maybe, bit, anyOf, hasRepeat, All, Answer, number, done, invalid, notOwner}
+use Rattle.model.specs.Basics.{overflow, ownerDead, timedOut, interrupted, noRoom, ticketsSpent, busy, queued}
 use Rattle.model.specs.Objects.{Object, empty, semaphore, mutex, event, byKind, occupied, isEvent}
-use Rattle.model.specs.Waits.{Mode, any, all, Wait, WaitPlace, free, waiting, State, withObjects, withWaits, objectAt, putObject, Grant, attempt, servable, acquireEach, servedAnswer, dequeue, oldest, anyWaiting, concernedBy, Report, Woken, noneWoken, andThen}
+use Rattle.model.specs.Waits.{Mode, any, all, Wait, WaitPlace, free, waiting, State, withObjects, withWaits}
+use Rattle.model.specs.Waits.{withNext, objectAt, putObject, attempt, servable, acquireEach, servedAnswer}
+use Rattle.model.specs.Waits.{dequeue, oldest, anyWaiting, concernedBy, Report, Woken, noneWoken, andThen}
 use Rattle.model.specs.Snapshot.{snapshotText}
 
 pub data Kind : Type 0 where
@@ -29,7 +32,7 @@ pub data Operation : Type 0 where
   cancel : (ticket : ℕ) → Operation
   snapshot : Operation
 
--- WHAT A CALL IS LENT for writing beside the tables: cells of a wake list, bytes of a snapshot buffer; empty where none.
+-- WHAT A CALL IS LENT for writing beside the tables: a wake list's cells, a snapshot buffer's bytes; empty where none.
 pub record Lent : Type 0 where
   pub wake : List ℕ
   pub buffer : List ℕ
@@ -37,12 +40,22 @@ pub record Lent : Type 0 where
 abbrev pub lend : List ℕ → List ℕ → Lent
 lend wake buffer = record { wake = wake; buffer = buffer }
 
+-- the forms that occur: nothing, a wake list, a buffer
+abbrev pub nothingLent : Lent
+nothingLent = lend [] []
+
+abbrev pub wakeLent : List ℕ → Lent
+wakeLent cells = lend cells []
+
+abbrev pub bufferLent : List ℕ → Lent
+bufferLent bytes = lend [] bytes
+
 pub record Call : Type 0 where
   pub operation : Operation
   pub lent : Lent
 
-abbrev pub asks : Operation → List ℕ → List ℕ → Call
-asks op wake buffer = record { operation = op; lent = lend wake buffer }
+abbrev pub asks : Operation → Lent → Call
+asks op lent = record { operation = op; lent = lent }
 
 -- The least lengths of the two. "Post, unlock, kill, set, pulse and expire take a lent wake list."
 unfoldable pub least : Operation → ℕ × ℕ
@@ -51,7 +64,7 @@ least (close h) = (0, 0)
 least (resetEvent h) = (0, 0)
 least (read k h) = (0, 0)
 least (signal how h) = (wakeLength, 0)
-least (wait mode hs o f p a t now) = (0, 0)
+least (wait mode hs o f p a timeout time) = (0, 0)
 least (expire c t) = (wakeLength, 0)
 least (cancel t) = (0, 0)
 least snapshot = (0, snapshotBuffer)
@@ -102,8 +115,10 @@ heldBy asking o = refusal invalid (eqb asking 0) ∷ refusal notOwner (not (eqb 
 -- Unlock: "previous count; count falls by one, owner 0 at zero". Kill: "mutex becomes unowned, count 0, abandoned".
 -- "Set, reset, pulse: previous state. Pulse sets, wakes, then clears" (`clearsAfter`).
 abbrev pub signalRule : Signal → Object → Rule
-signalRule (post add) x = onSemaphore x (λ c m. rule (refusal overflow (ltb m (c + add)) ∷ []) done c 0 (semaphore (c + add) m))
-signalRule (unlock asking) x = onMutex x (λ o c a. rule (heldBy asking o) done c 0 (mutex (cond (eqb c 1) 0 o) (pred c) a))
+signalRule (post add) x = onSemaphore x
+    (λ c m. rule (refusal overflow (ltb m (c + add)) ∷ []) done c 0 (semaphore (c + add) m))
+signalRule (unlock asking) x = onMutex x
+    (λ o c a. rule (heldBy asking o) done c 0 (mutex (cond (eqb c 1) 0 o) (pred c) a))
 signalRule (kill asking) x = onMutex x (λ o c a. rule (heldBy asking o) done 0 0 (mutex 0 0 true))
 signalRule setEvent x = onEvent x (λ s m. rule [] done (bit s) 0 (event true m))
 signalRule pulseEvent x = onEvent x (λ s m. rule [] done (bit s) 0 (event true m))
@@ -156,8 +171,8 @@ repeats all hs = hasRepeat hs
 
 abbrev pub waitFaults : Mode → List ℕ → ℕ → ℕ → ℕ → ℕ → List Object → List Bool
 waitFaults mode hs asking flags pad alert os =
-    listTooShort mode hs ∷ ltb maxListed (length hs) ∷ not (allOccupied os hs) ∷ eqb asking 0 ∷ ltb 1 flags ∷ not (eqb pad 0)
-    ∷ not (eqb alert 0 || isEvent (objectAt os alert)) ∷ repeats mode (alert ∷ hs) ∷ []
+    listTooShort mode hs ∷ ltb maxListed (length hs) ∷ not (allOccupied os hs) ∷ eqb asking 0 ∷ ltb 1 flags
+    ∷ not (eqb pad 0) ∷ not (eqb alert 0 || isEvent (objectAt os alert)) ∷ repeats mode (alert ∷ hs) ∷ []
 
 -- "timeout at or before the given time of the wait's clock means 5. 2^64-1 means never, whatever the time."
 abbrev pub timeUp : ℕ → ℕ → Bool
@@ -182,24 +197,27 @@ enqueue w [] = []
 enqueue w (free ∷ ws) = waiting w ∷ ws
 enqueue w (waiting v ∷ ws) = waiting v ∷ enqueue w ws
 
--- THE REFUSALS OF A CALL. "Order: 9, 12" (Steps.antt) ", 1, then 2, 3, 7, 10." "A wait comes after 1 to: served (0 or 4),
--- 5, 7, 8, 11, in that order; so a full queue doesn't refuse a wait that can be served at once." "given a clock (0
+-- THE REFUSALS OF A CALL. "Order: 9, 12" (Steps.antt) ", 1, then 2, 3, 7, 10." "A wait comes after 1 to: served (0 or
+-- 4), 5, 7, 8, 11, in that order; so a full queue doesn't refuse a wait that can be served at once." "given a clock (0
 -- monotonic, 1 real-time, else EINVAL)"; "Cancel: EINVAL if no queued wait has that ticket"
 unfoldable pub refusals : Operation → State → List Refusal
-refusals (create k x y) s = refusal invalid (badNew k x y) ∷ refusal noRoom (ltb (length (s .objects)) (newHandle s)) ∷ []
-refusals (close h) s = refusal invalid (not (occupied (objectAt (s .objects) h))) ∷ refusal busy (anyWaiting (concernedBy (h ∷ [])) (s .waits)) ∷ []
+refusals (create k x y) s =
+    refusal invalid (badNew k x y) ∷ refusal noRoom (ltb (length (s .objects)) (newHandle s)) ∷ []
+refusals (close h) s = refusal invalid (not (occupied (objectAt (s .objects) h)))
+    ∷ refusal busy (anyWaiting (concernedBy (h ∷ [])) (s .waits)) ∷ []
 refusals (resetEvent h) s = (resetRule (objectAt (s .objects) h)) .refusals
 refusals (read k h) s = (readRule k (objectAt (s .objects) h)) .refusals
 refusals (signal how h) s = (signalRule how (objectAt (s .objects) h)) .refusals
-refusals (wait mode hs o f p a t now) s = let must = mustQueue (newWait mode hs o f a t (s .next)) now s in
+refusals (wait mode hs o f p a timeout time) s =
+    let must = mustQueue (newWait mode hs o f a timeout (s .next)) time s in
     refusal invalid (anyOf (waitFaults mode hs o f p a (s .objects)))
-    ∷ refusal noRoom (must && waitsFull (s .waits)) ∷ refusal ticketsSpent (must && leb word64 (suc (s .next))) ∷ []
+    ∷ refusal noRoom (must && waitsFull (s .waits)) ∷ refusal ticketsSpent (must && eqb (s .next) ticketsEnd) ∷ []
 refusals (expire clock time) s = refusal invalid (ltb 1 clock) ∷ []
 refusals (cancel ticket) s = refusal invalid (not (anyWaiting (λ w. eqb (w .ticket) ticket) (s .waits))) ∷ []
 refusals snapshot s = []
 
--- THE CHANGE of a call that is not refused (01: the bare change, "the call's rule with its answer and numbers, without its
--- walk"), with its own reports, bytes for a buffer, the objects whose change wakes, and the event to clear at last (0: none).
+-- THE CHANGE of a call that is not refused (01: the bare change, "the call's rule with its answer and numbers, without
+-- its walk"): its own reports, bytes for a buffer, the objects whose change wakes, the event to clear last (0: none).
 pub record Change : Type 0 where
   pub answer : ℕ
   pub first : ℕ
@@ -212,41 +230,78 @@ pub record Change : Type 0 where
 
 -- answer, two numbers, state; with reports and text; with what wakes
 abbrev pub answers : ℕ → ℕ → ℕ → State → Change
-answers a x y s = record { answer = a; first = x; second = y; reports = []; text = []; state = s; changed = []; clears = 0 }
+answers a x y s = record {
+  answer = a;
+  first = x;
+  second = y;
+  reports = [];
+  text = [];
+  state = s;
+  changed = [];
+  clears = 0;
+}
 
 abbrev pub writes : ℕ → List Report → List ℕ → State → Change
-writes x rs text s = record { answer = number done; first = x; second = 0; reports = rs; text = text; state = s; changed = []; clears = 0 }
+writes x rs text s = record {
+  answer = number done;
+  first = x;
+  second = 0;
+  reports = rs;
+  text = text;
+  state = s;
+  changed = [];
+  clears = 0;
+}
 
 abbrev pub wakes : Rule → ℕ → ℕ → State → Change
-wakes r h k s = record { answer = r .answer; first = r .first; second = r .second; reports = []; text = []; state = putObject s h (r .next); changed = h ∷ []; clears = k }
+wakes r h k s = record {
+  answer = r .answer;
+  first = r .first;
+  second = r .second;
+  reports = [];
+  text = [];
+  state = putObject s h (r .next);
+  changed = h ∷ [];
+  clears = k;
+}
 
--- a wait served (its index), timed out, or queued (its ticket): "A queued wait takes the next ticket, which then rises by one"
+-- a wait served (its index), timed out, or queued (its ticket): "A queued wait takes the next ticket, which then rises
+-- by one; nothing else spends one."
 unfoldable pub admits : Wait → ℕ → State → Change
 admits w time s = maybe (attempt (s .objects) w)
     (cond (timeUp (w .timeout) time) (answers (number timedOut) 0 0 s)
-    (answers (number queued) 0 (s .next) record { objects = s .objects; waits = enqueue w (s .waits); next = suc (s .next) }))
-    (λ g. answers (servedAnswer (s .objects) g) (g .index) 0 (withObjects s (acquireEach (w .owner) (s .objects) (g .handles))))
+    (answers (number queued) 0 (s .next) (withNext (withWaits s (enqueue w (s .waits))) (suc (s .next)))))
+    (λ g. answers (servedAnswer (s .objects) g) (g .index) 0
+    (withObjects s (acquireEach (w .owner) (s .objects) (g .handles))))
 
--- "Expire .. ends with 5, index 0, by ticket, every wait on that clock with timeout at or before that time, but not 2^64-1."
+-- "Expire .. ends with 5, index 0, by ticket, every wait on that clock with timeout at or before that time, but not
+-- 2^64-1."
+abbrev pub ends : Wait → State → Woken
+ends w s = record {
+  reports = record { ticket = w .ticket; answer = number timedOut; index = 0 } ∷ [];
+  state = withWaits s (dequeue (w .ticket) (s .waits));
+}
+
 unfoldable pub endEach : ℕ → (Wait → Bool) → State → Woken
 endEach zero f s = noneWoken s
-endEach (suc n) f s = maybe (oldest f (s .waits)) (noneWoken s) (λ w. andThen
-    (record { reports = record { ticket = w .ticket; answer = number timedOut; index = 0 } ∷ []; state = withWaits s (dequeue (w .ticket) (s .waits)) })
-    (λ s′. endEach n f s′))
+endEach (suc n) f s = maybe (oldest f (s .waits)) (noneWoken s) (λ w. andThen (ends w s) (λ s′. endEach n f s′))
 
 -- create hands back the new handle, snapshot the text's length
 unfoldable pub change : Operation → State → Change
 change (create k x y) s = answers (number done) (newHandle s) 0 (putObject s (newHandle s) (newObject k x y))
 change (close h) s = answers (number done) 0 0 (putObject s h empty)
-change (resetEvent h) s = let r = resetRule (objectAt (s .objects) h) in answers (r .answer) (r .first) (r .second) (putObject s h (r .next))
+change (resetEvent h) s = let r = resetRule (objectAt (s .objects) h) in
+    answers (r .answer) (r .first) (r .second) (putObject s h (r .next))
 change (read k h) s = let r = readRule k (objectAt (s .objects) h) in answers (r .answer) (r .first) (r .second) s
 change (signal how h) s = wakes (signalRule how (objectAt (s .objects) h)) h (clearsAfter how h) s
-change (wait mode hs o f p a t now) s = admits (newWait mode hs o f a t (s .next)) now s
-change (expire clock time) s = let e = endEach (length (s .waits)) (λ w. eqb (w .clock) clock && timeUp (w .timeout) time) s in writes 0 (e .reports) [] (e .state)
+change (wait mode hs o f p a timeout time) s = admits (newWait mode hs o f a timeout (s .next)) time s
+change (expire clock time) s =
+    let e = endEach (length (s .waits)) (λ w. eqb (w .clock) clock && timeUp (w .timeout) time) s in
+    writes 0 (e .reports) [] (e .state)
 change (cancel ticket) s = answers (number interrupted) 0 0 (withWaits s (dequeue ticket (s .waits)))
 change snapshot s = writes (length (snapshotText s)) [] (snapshotText s) s
 
--- EACH NUMBER FITS ITS PARAMETER'S WIDTH: the numbers of 32 bits and those of 64 (times and tickets).
+-- EACH NUMBER IS WITHIN ITS PARAMETER'S WIDTH: the numbers of 32 bits and those of 64 (times and tickets).
 abbrev pub numbers : Operation → List ℕ × List ℕ
 numbers (create k x y) = (x ∷ y ∷ [], [])
 numbers (close h) = (h ∷ [], [])
@@ -257,10 +312,11 @@ numbers (signal (unlock o) h) = (h ∷ o ∷ [], [])
 numbers (signal (kill o) h) = (h ∷ o ∷ [], [])
 numbers (signal setEvent h) = (h ∷ [], [])
 numbers (signal pulseEvent h) = (h ∷ [], [])
-numbers (wait mode hs o f p a t now) = (o ∷ f ∷ p ∷ a ∷ hs, t ∷ now ∷ [])
+numbers (wait mode hs o f p a timeout time) = (o ∷ f ∷ p ∷ a ∷ hs, timeout ∷ time ∷ [])
 numbers (expire c t) = (c ∷ [], t ∷ [])
 numbers (cancel t) = ([], t ∷ [])
 numbers snapshot = ([], [])
 
-abbrev pub Fits : Call → Type 0
-Fits c = All (λ n. n < word32) ((numbers (c .operation)) .0) × All (λ n. n < word64) ((numbers (c .operation)) .1)
+abbrev pub WithinWidths : Call → Type 0
+WithinWidths c =
+    All (λ n. n < word32) ((numbers (c .operation)) .0) × All (λ n. n < word64) ((numbers (c .operation)) .1)

@@ -1,4 +1,4 @@
--- The layout of the tables as one list of cells (docs/LAYOUT.md), the state they show, and when they are valid (01: sound).
+-- The tables as one list of cells (docs/LAYOUT.md), the state that they show, and their validity (01: sound tables).
 use mathlib.Core.Bool.{Bool, true, false, not, _&&_, _||_, cond}
 use mathlib.Core.List.{List, [], _∷_, _++_, map}
 use Prim.Native.Nat.{ℕ, _+_, _*_}
@@ -77,12 +77,13 @@ view t = record {
   next = getD t 0 0;
 }
 
--- VALIDITY, as a test; ValidCells.antt has document 01's list line by line, proved equivalent. "a semaphore's count is at
--- most its maximum; a mutex's owner is 0 exactly when its count is 0; an abandoned mutex has owner 0"; ranges
+-- VALIDITY, as a test; ValidCells.antt has document 01's list line by line, proved equivalent. "a semaphore's count is
+-- at most its maximum; a mutex's owner is 0 exactly when its count is 0; an abandoned mutex has owner 0"; ranges
 abbrev pub validObject : Object → Bool
 validObject empty = true
 validObject (semaphore c m) = allOf (leb c m ∷ ltb m word32 ∷ [])
-validObject (mutex o c a) = allOf (ltb o word32 ∷ ltb c word32 ∷ eqb (bit (eqb o 0)) (bit (eqb c 0)) ∷ (not a || eqb o 0) ∷ [])
+validObject (mutex o c a) =
+    allOf (ltb o word32 ∷ ltb c word32 ∷ eqb (bit (eqb o 0)) (bit (eqb c 0)) ∷ (not a || eqb o 0) ∷ [])
 validObject (event s m) = true
 
 -- "each queued wait has an owner other than 0, .. a list of 1 to 64 occupied handles, and an alert that is 0 or an
@@ -99,8 +100,9 @@ distinctTickets (free ∷ ws) = distinctTickets ws
 distinctTickets (waiting w ∷ ws) = not (anyWaiting (λ v. eqb (v .ticket) (w .ticket)) ws) && distinctTickets ws
 
 abbrev pub validState : State → Bool
-validState s = allOf (eqb (length (s .objects)) objectPlaces ∷ eqb (length (s .waits)) waitPlaces ∷ allOf (map validObject (s .objects))
-    ∷ not (anyWaiting (λ w. not (validWait (s .objects) w)) (s .waits)) ∷ not (anyWaiting (λ w. not (ltb 0 (w .ticket) && ltb (w .ticket) (s .next))) (s .waits))
+validState s = allOf (eqb (length (s .objects)) objectPlaces ∷ eqb (length (s .waits)) waitPlaces
+    ∷ allOf (map validObject (s .objects)) ∷ not (anyWaiting (λ w. not (validWait (s .objects) w)) (s .waits))
+    ∷ not (anyWaiting (λ w. not (ltb 0 (w .ticket) && ltb (w .ticket) (s .next))) (s .waits))
     ∷ distinctTickets (s .waits) ∷ ltb 0 (s .next) ∷ ltb (s .next) word64 ∷ [])
 
 unfoldable pub sameCells : List ℕ → List ℕ → Bool

@@ -6,4 +6,5 @@ pub mod Snapshot
 pub mod Calls
 pub mod Layout
 pub mod Steps
+pub mod Notions
 pub mod ValidCells

@@ -28,6 +28,10 @@ mutexCeiling = 4294967295
 abbrev pub never : ℕ
 never = 18446744073709551615
 
+-- "Tickets run from 1 to 2^64-2"; "8 tickets spent: next ticket is 2^64-1"
+abbrev pub ticketsEnd : ℕ
+ticketsEnd = 18446744073709551615
+
 -- "12: wake list under 32 records, or picture buffer under 32,768 bytes": a record of three cells for every wait place
 abbrev pub wakeLength : ℕ
 wakeLength = 3 * waitPlaces

@@ -1,5 +1,5 @@
 -- The snapshot (01: the picture) of a state, byte by byte (document 01, "The picture").
-use mathlib.Core.Bool.{Bool, true, false, cond}
+use mathlib.Core.Bool.{cond}
 use mathlib.Core.List.{List, [], _∷_, _++_}
 use Prim.Native.Nat.{ℕ, zero, suc, _+_, _/_, _%_}
 use Prim.Native.Char.{code}
@@ -27,8 +27,10 @@ line key n = ascii key ++ (digitsUpTo 19 n ++ (10 ∷ []))
 unfoldable pub objectText : ℕ → Object → List ℕ
 objectText h empty = []
 objectText h (semaphore c m) = line "handle=" h ++ (ascii "kind=sem\n" ++ (line "count=" c ++ line "max=" m))
-objectText h (mutex o c a) = line "handle=" h ++ (ascii "kind=mutex\n" ++ (line "owner=" o ++ (line "count=" c ++ line "abandoned=" (bit a))))
-objectText h (event s m) = line "handle=" h ++ (ascii "kind=event\n" ++ (line "signaled=" (bit s) ++ line "manual=" (bit m)))
+objectText h (mutex o c a) =
+    line "handle=" h ++ (ascii "kind=mutex\n" ++ (line "owner=" o ++ (line "count=" c ++ line "abandoned=" (bit a))))
+objectText h (event s m) =
+    line "handle=" h ++ (ascii "kind=event\n" ++ (line "signaled=" (bit s) ++ line "manual=" (bit m)))
 
 -- "objects by handle": from handle h on
 unfoldable pub objectsText : ℕ → List Object → List ℕ
@@ -49,8 +51,9 @@ clockText zero = ascii "clock=mono\n"
 clockText (suc k) = ascii "clock=real\n"
 
 unfoldable pub waitText : Wait → List ℕ
-waitText w = line "wait=" (w .ticket) ++ (modeText (w .mode) ++ (line "owner=" (w .owner) ++ (clockText (w .clock) ++ (line "timeout=" (w .timeout)
-    ++ (line "alert=" (w .alert) ++ (line "n=" (length (w .list)) ++ joined (line "obj=") (w .list)))))))
+waitText w = line "wait=" (w .ticket) ++ (modeText (w .mode) ++ (line "owner=" (w .owner) ++ (clockText (w .clock)
+    ++ (line "timeout=" (w .timeout) ++ (line "alert=" (w .alert) ++ (line "n=" (length (w .list))
+    ++ joined (line "obj=") (w .list)))))))
 
 -- "waits by ticket": the queued waits above a ticket, lowest first, at most n of them
 unfoldable pub queueFrom : ℕ → ℕ → List WaitPlace → List Wait
@@ -59,4 +62,5 @@ queueFrom (suc n) last ws = maybe (oldest (λ w. ltb last (w .ticket)) ws) [] (�
 
 unfoldable pub snapshotText : State → List ℕ
 snapshotText s = let q = queueFrom (length (s .waits)) 0 (s .waits) in
-    line "next=" (s .next) ++ (line "objects=" (objectCount (s .objects)) ++ (objectsText 1 (s .objects) ++ (line "waits=" (length q) ++ joined waitText q)))
+    line "next=" (s .next) ++ (line "objects=" (objectCount (s .objects)) ++ (objectsText 1 (s .objects)
+    ++ (line "waits=" (length q) ++ joined waitText q)))

@@ -51,14 +51,16 @@ pub record ValidWait (t : List ℕ) (p : ℕ) : Type 0 where
   pub timeout : inWait t p 4 < word64
   -- "a wait for all has no handle twice, its alert included"
   pub once : inWait t p 1 ≡ 1 → (k : ℕ) → k < inWait t p 5
-      → (inWait t p (headerSize + k) ≡ inWait t p 6 → ⊥) × ((j : ℕ) → j < k → inWait t p (headerSize + j) ≡ inWait t p (headerSize + k) → ⊥)
+      → (inWait t p (headerSize + k) ≡ inWait t p 6 → ⊥)
+      × ((j : ℕ) → j < k → inWait t p (headerSize + j) ≡ inWait t p (headerSize + k) → ⊥)
 
 pub record ValidCells (t : List ℕ) : Type 0 where
   -- "their lengths are those in docs/"
   pub size : length t ≡ tableLength
   -- "the next ticket is 1 or more"
   pub next : (1 ≤ getD t 0 0) × (getD t 0 0 < word64)
-  pub objects : (p : ℕ) → p < objectPlaces → ValidObject (inObject t p 0) (inObject t p 1) (inObject t p 2) (inObject t p 3)
+  pub objects : (p : ℕ) → p < objectPlaces
+      → ValidObject (inObject t p 0) (inObject t p 1) (inObject t p 2) (inObject t p 3)
   -- "empty places .. hold zeros"
   pub free : (p : ℕ) → p < waitPlaces → inWait t p 0 ≡ 0 → (j : ℕ) → j < waitSize → inWait t p j ≡ 0
   pub queued : (p : ℕ) → p < waitPlaces → (inWait t p 0 ≡ 0 → ⊥) → ValidWait t p

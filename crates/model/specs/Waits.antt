@@ -42,6 +42,9 @@ withObjects s os = record { objects = os; waits = s .waits; next = s .next }
 abbrev pub withWaits : State → List WaitPlace → State
 withWaits s ws = record { objects = s .objects; waits = ws; next = s .next }
 
+abbrev pub withNext : State → ℕ → State
+withNext s n = record { objects = s .objects; waits = s .waits; next = n }
+
 -- Handle h is object place h - 1; "0 is never a handle", and a number that is no handle names an empty place.
 abbrev pub objectAt : List Object → ℕ → Object
 objectAt os zero = empty
@@ -74,10 +77,12 @@ unfoldable pub look : Mode → ℕ → List Object → List ℕ → Option Grant
 look any asking os hs = lowestSignaled asking os 0 hs
 look all asking os hs = cond (allSignaled asking os hs) (some record { handles = hs; index = 0 }) none
 
--- "Else, if the alert is signaled, the alert is acquired, answer 0, index = list length. The list always comes before the alert."
+-- "Else, if the alert is signaled, the alert is acquired, answer 0, index = list length. The list always comes before
+-- the alert."
 unfoldable pub attempt : List Object → Wait → Option Grant
 attempt os w = maybe (look (w .mode) (w .owner) os (w .list))
-    (cond (signaled (w .owner) (objectAt os (w .alert))) (some record { handles = w .alert ∷ []; index = length (w .list) }) none)
+    (cond (signaled (w .owner) (objectAt os (w .alert)))
+    (some record { handles = w .alert ∷ []; index = length (w .list) }) none)
     (λ g. some g)
 
 -- "A wait can be served if an attempt now would succeed, by list or alert, whatever its timeout"
@@ -152,12 +157,13 @@ unfoldable pub tryToServe : Wait → State → Woken
 tryToServe w s = maybe (attempt (s .objects) w) (noneWoken s) (λ g. serve w g s)
 
 -- THE LIBRARY'S WALK. "the queued waits are walked once, lowest ticket first (order house; 001 leaves it open). A wait
--- whose list or alert names the changed object is tried as above, against the objects as they then stand". `last` is the
--- ticket visited last, n the number of visits left.
+-- whose list or alert names the changed object is tried as above, against the objects as they then stand". `last` is
+-- the ticket visited last, n the number of visits left.
 unfoldable pub walkQueue : ℕ → List ℕ → ℕ → State → Woken
 walkQueue zero changed last s = noneWoken s
 walkQueue (suc n) changed last s = maybe (oldest (λ w. ltb last (w .ticket)) (s .waits)) (noneWoken s)
-    (λ w. andThen (cond (concernedBy changed w) (tryToServe w s) (noneWoken s)) (λ s′. walkQueue n changed (w .ticket) s′))
+    (λ w. andThen (cond (concernedBy changed w) (tryToServe w s) (noneWoken s))
+    (λ s′. walkQueue n changed (w .ticket) s′))
 
 abbrev pub wakeByWalk : List ℕ → State → Woken
 wakeByWalk changed s = walkQueue (length (s .waits)) changed 0 s

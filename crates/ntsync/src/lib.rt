@@ -8,9 +8,9 @@ ghost use denote.Ref.{ptr};
 ghost use Prim.Native.Nat.{_*_, _≤_};
 ghost use lib.Dec.{ltb};
 ghost use Rattle.model.specs.Sizes.{wakeLength};
-ghost use Rattle.model.specs.Calls.{create, close, resetEvent, read, signal, cancel, snapshot, wait, expire, post, unlock, kill, setEvent, pulseEvent, aSemaphore, aMutex, anEvent, lend, asks};
+ghost use Rattle.model.specs.Calls.{create, close, resetEvent, read, signal, cancel, snapshot, wait, expire, post, unlock, kill, setEvent, pulseEvent, aSemaphore, aMutex, anEvent, nothingLent, wakeLent, bufferLent, asks};
 ghost use Rattle.cells.specs.Validity.{validCells};
-ghost use Rattle.model.specs.Steps.{tableStep, makeTables, seen, handed};
+ghost use Rattle.model.specs.Steps.{tableStep, makeTables, seen, sees, handed, hands};
 ghost use Rattle.model.specs.Waits.{any, all};
 ghost use Rattle.cells.specs.Calls.{answered, createCells, waitOnCells, guarded};
 ghost use Rattle.kinds.specs.Values.{cellsOf};
@@ -72,7 +72,8 @@ const SNAPSHOT_BUFFER: usize = 32768;
 
 // Newly made tables; only the length is looked at.
 pub fn init(tables: &mut [u64]) -> u32
-    ensures { λ r. ⌜ seen (makeTables (now (tables .entry))) ≡ (r ∷ 0 ∷ 0 ∷ 0 ∷ [], [], [], now (tables .exit)) ⌝ }
+    ensures { λ r. ⌜ seen (makeTables (now (tables .entry)))
+        ≡ sees (r ∷ 0 ∷ 0 ∷ 0 ∷ []) nothingLent (now (tables .exit)) ⌝ }
 {
     if tables.len() != tables::TABLE_LENGTH {
         return CORRUPT;
@@ -84,8 +85,8 @@ pub fn init(tables: &mut [u64]) -> u32
 // ---- creating
 
 fn place(tables: &mut [u64], new: Creation) -> Numbered
-    ensures { λ r. ⌜ answered (r .answer) (r .number) 0 (now (tables .exit)) (lend [] [])
-        ≡ guarded (lend [] []) (now (tables .entry)) (createCells (not (new .ok)) (cellsOf (new .object)) (now (tables .entry)) (lend [] [])) ⌝ }
+    ensures { λ r. ⌜ answered (r .answer) (r .number) 0 (now (tables .exit)) nothingLent
+        ≡ guarded nothingLent (now (tables .entry)) (createCells (not (new .ok)) (cellsOf (new .object)) (now (tables .entry)) nothingLent) ⌝ }
 {
     let corrupt = !validity::valid(tables);
     if corrupt {
@@ -98,7 +99,8 @@ fn place(tables: &mut [u64], new: Creation) -> Numbered
 }
 
 pub fn create_sem(tables: &mut [u64], count: u32, max: u32) -> Created
-    ensures { λ r. ⌜ seen (tableStep (now (tables .entry)) (asks (create aSemaphore count max) [] [])) ≡ (r .answer ∷ r .handle ∷ 0 ∷ 0 ∷ [], [], [], now (tables .exit)) ⌝ }
+    ensures { λ r. ⌜ seen (tableStep (now (tables .entry)) (asks (create aSemaphore count max) nothingLent))
+        ≡ sees (r .answer ∷ r .handle ∷ 0 ∷ 0 ∷ []) nothingLent (now (tables .exit)) ⌝ }
 {
     let new = Semaphore::create(count, max);
     let r = place(tables, new);
@@ -109,7 +111,8 @@ pub fn create_sem(tables: &mut [u64], count: u32, max: u32) -> Created
 }
 
 pub fn create_mutex(tables: &mut [u64], owner: u32, count: u32) -> Created
-    ensures { λ r. ⌜ seen (tableStep (now (tables .entry)) (asks (create aMutex owner count) [] [])) ≡ (r .answer ∷ r .handle ∷ 0 ∷ 0 ∷ [], [], [], now (tables .exit)) ⌝ }
+    ensures { λ r. ⌜ seen (tableStep (now (tables .entry)) (asks (create aMutex owner count) nothingLent))
+        ≡ sees (r .answer ∷ r .handle ∷ 0 ∷ 0 ∷ []) nothingLent (now (tables .exit)) ⌝ }
 {
     let new = Mutex::create(owner, count);
     let r = place(tables, new);
@@ -120,7 +123,8 @@ pub fn create_mutex(tables: &mut [u64], owner: u32, count: u32) -> Created
 }
 
 pub fn create_event(tables: &mut [u64], signaled: u32, manual: u32) -> Created
-    ensures { λ r. ⌜ seen (tableStep (now (tables .entry)) (asks (create anEvent signaled manual) [] [])) ≡ (r .answer ∷ r .handle ∷ 0 ∷ 0 ∷ [], [], [], now (tables .exit)) ⌝ }
+    ensures { λ r. ⌜ seen (tableStep (now (tables .entry)) (asks (create anEvent signaled manual) nothingLent))
+        ≡ sees (r .answer ∷ r .handle ∷ 0 ∷ 0 ∷ []) nothingLent (now (tables .exit)) ⌝ }
 {
     let new = Event::create(signaled, manual);
     let r = place(tables, new);
@@ -133,7 +137,8 @@ pub fn create_event(tables: &mut [u64], signaled: u32, manual: u32) -> Created
 // ---- reading
 
 pub fn read_sem(tables: &[u64], handle: u32) -> SemaphoreState
-    ensures { λ r. ⌜ seen (tableStep (now (tables .entry)) (asks (read aSemaphore handle) [] [])) ≡ (r .answer ∷ r .count ∷ r .max ∷ 0 ∷ [], [], [], now (tables .entry)) ⌝ }
+    ensures { λ r. ⌜ seen (tableStep (now (tables .entry)) (asks (read aSemaphore handle) nothingLent))
+        ≡ sees (r .answer ∷ r .count ∷ r .max ∷ 0 ∷ []) nothingLent (now (tables .entry)) ⌝ }
 {
     let corrupt = !validity::valid(tables);
     if corrupt {
@@ -152,7 +157,8 @@ pub fn read_sem(tables: &[u64], handle: u32) -> SemaphoreState
 }
 
 pub fn read_mutex(tables: &[u64], handle: u32) -> MutexState
-    ensures { λ r. ⌜ seen (tableStep (now (tables .entry)) (asks (read aMutex handle) [] [])) ≡ (r .answer ∷ r .owner ∷ r .count ∷ 0 ∷ [], [], [], now (tables .entry)) ⌝ }
+    ensures { λ r. ⌜ seen (tableStep (now (tables .entry)) (asks (read aMutex handle) nothingLent))
+        ≡ sees (r .answer ∷ r .owner ∷ r .count ∷ 0 ∷ []) nothingLent (now (tables .entry)) ⌝ }
 {
     let corrupt = !validity::valid(tables);
     if corrupt {
@@ -171,7 +177,8 @@ pub fn read_mutex(tables: &[u64], handle: u32) -> MutexState
 }
 
 pub fn read_event(tables: &[u64], handle: u32) -> EventState
-    ensures { λ r. ⌜ seen (tableStep (now (tables .entry)) (asks (read anEvent handle) [] [])) ≡ (r .answer ∷ r .signaled ∷ r .manual ∷ 0 ∷ [], [], [], now (tables .entry)) ⌝ }
+    ensures { λ r. ⌜ seen (tableStep (now (tables .entry)) (asks (read anEvent handle) nothingLent))
+        ≡ sees (r .answer ∷ r .signaled ∷ r .manual ∷ 0 ∷ []) nothingLent (now (tables .entry)) ⌝ }
 {
     let corrupt = !validity::valid(tables);
     if corrupt {
@@ -192,7 +199,8 @@ pub fn read_event(tables: &[u64], handle: u32) -> EventState
 // ---- closing, resetting, cancelling
 
 pub fn close(tables: &mut [u64], handle: u32) -> u32
-    ensures { λ r. ⌜ seen (tableStep (now (tables .entry)) (asks (close handle) [] [])) ≡ (r ∷ 0 ∷ 0 ∷ 0 ∷ [], [], [], now (tables .exit)) ⌝ }
+    ensures { λ r. ⌜ seen (tableStep (now (tables .entry)) (asks (close handle) nothingLent))
+        ≡ sees (r ∷ 0 ∷ 0 ∷ 0 ∷ []) nothingLent (now (tables .exit)) ⌝ }
 {
     let corrupt = !validity::valid(tables);
     if corrupt {
@@ -202,7 +210,8 @@ pub fn close(tables: &mut [u64], handle: u32) -> u32
 }
 
 pub fn reset(tables: &mut [u64], handle: u32) -> Changed
-    ensures { λ r. ⌜ seen (tableStep (now (tables .entry)) (asks (resetEvent handle) [] [])) ≡ (r .answer ∷ r .previous ∷ 0 ∷ r .woken ∷ [], [], [], now (tables .exit)) ⌝ }
+    ensures { λ r. ⌜ seen (tableStep (now (tables .entry)) (asks (resetEvent handle) nothingLent))
+        ≡ sees (r .answer ∷ r .previous ∷ 0 ∷ r .woken ∷ []) nothingLent (now (tables .exit)) ⌝ }
 {
     let corrupt = !validity::valid(tables);
     if corrupt {
@@ -221,7 +230,8 @@ pub fn reset(tables: &mut [u64], handle: u32) -> Changed
 }
 
 pub fn cancel(tables: &mut [u64], ticket: u64) -> u32
-    ensures { λ r. ⌜ seen (tableStep (now (tables .entry)) (asks (cancel ticket) [] [])) ≡ (r ∷ 0 ∷ 0 ∷ 0 ∷ [], [], [], now (tables .exit)) ⌝ }
+    ensures { λ r. ⌜ seen (tableStep (now (tables .entry)) (asks (cancel ticket) nothingLent))
+        ≡ sees (r ∷ 0 ∷ 0 ∷ 0 ∷ []) nothingLent (now (tables .exit)) ⌝ }
 {
     let corrupt = !validity::valid(tables);
     if corrupt {
@@ -243,8 +253,8 @@ fn wait(
     timeout: u64,
     time: u64,
 ) -> Waited
-    ensures { λ r. ⌜ answered (r .answer) (r .index) (r .ticket) (now (tables .exit)) (lend [] [])
-        ≡ guarded (lend [] []) (now (tables .entry)) (waitOnCells mode (now (list .entry)) owner flags pad alert timeout time (now (tables .entry)) (lend [] [])) ⌝ }
+    ensures { λ r. ⌜ answered (r .answer) (r .index) (r .ticket) (now (tables .exit)) nothingLent
+        ≡ guarded nothingLent (now (tables .entry)) (waitOnCells mode (now (list .entry)) owner flags pad alert timeout time (now (tables .entry)) nothingLent) ⌝ }
 {
     let corrupt = !validity::valid(tables);
     if corrupt {
@@ -282,7 +292,8 @@ pub fn wait_any(
     timeout: u64,
     time: u64,
 ) -> Waited
-    ensures { λ r. ⌜ seen (tableStep (now (tables .entry)) (asks (wait any (now (list .entry)) owner flags pad alert timeout time) [] [])) ≡ (r .answer ∷ r .index ∷ r .ticket ∷ 0 ∷ [], [], [], now (tables .exit)) ⌝ }
+    ensures { λ r. ⌜ seen (tableStep (now (tables .entry)) (asks (wait any (now (list .entry)) owner flags pad alert timeout time) nothingLent))
+        ≡ sees (r .answer ∷ r .index ∷ r .ticket ∷ 0 ∷ []) nothingLent (now (tables .exit)) ⌝ }
 {
     wait(tables, list, owner, alert, 0, flags, pad, timeout, time)
 }
@@ -297,7 +308,8 @@ pub fn wait_all(
     timeout: u64,
     time: u64,
 ) -> Waited
-    ensures { λ r. ⌜ seen (tableStep (now (tables .entry)) (asks (wait all (now (list .entry)) owner flags pad alert timeout time) [] [])) ≡ (r .answer ∷ r .index ∷ r .ticket ∷ 0 ∷ [], [], [], now (tables .exit)) ⌝ }
+    ensures { λ r. ⌜ seen (tableStep (now (tables .entry)) (asks (wait all (now (list .entry)) owner flags pad alert timeout time) nothingLent))
+        ≡ sees (r .answer ∷ r .index ∷ r .ticket ∷ 0 ∷ []) nothingLent (now (tables .exit)) ⌝ }
 {
     wait(tables, list, owner, alert, 1, flags, pad, timeout, time)
 }
@@ -319,7 +331,8 @@ fn refused(tables: &[u64], wake: &[u64]) -> u32
 }
 
 pub fn post(tables: &mut [u64], wake: &mut [u64], handle: u32, add: u32) -> Changed
-    ensures { λ r. ⌜ seen (tableStep (now (tables .entry)) (asks (signal (post add) handle) (now (wake .entry)) [])) ≡ (r .answer ∷ r .previous ∷ 0 ∷ r .woken ∷ [], now (wake .exit), [], now (tables .exit)) ⌝ }
+    ensures { λ r. ⌜ seen (tableStep (now (tables .entry)) (asks (signal (post add) handle) (wakeLent (now (wake .entry)))))
+        ≡ sees (r .answer ∷ r .previous ∷ 0 ∷ r .woken ∷ []) (wakeLent (now (wake .exit))) (now (tables .exit)) ⌝ }
 {
     let answer = refused(tables, wake);
     if answer != 0 {
@@ -333,7 +346,8 @@ pub fn post(tables: &mut [u64], wake: &mut [u64], handle: u32, add: u32) -> Chan
 }
 
 pub fn unlock(tables: &mut [u64], wake: &mut [u64], handle: u32, owner: u32) -> Changed
-    ensures { λ r. ⌜ seen (tableStep (now (tables .entry)) (asks (signal (unlock owner) handle) (now (wake .entry)) [])) ≡ (r .answer ∷ r .previous ∷ 0 ∷ r .woken ∷ [], now (wake .exit), [], now (tables .exit)) ⌝ }
+    ensures { λ r. ⌜ seen (tableStep (now (tables .entry)) (asks (signal (unlock owner) handle) (wakeLent (now (wake .entry)))))
+        ≡ sees (r .answer ∷ r .previous ∷ 0 ∷ r .woken ∷ []) (wakeLent (now (wake .exit))) (now (tables .exit)) ⌝ }
 {
     let answer = refused(tables, wake);
     if answer != 0 {
@@ -347,7 +361,8 @@ pub fn unlock(tables: &mut [u64], wake: &mut [u64], handle: u32, owner: u32) -> 
 }
 
 pub fn kill_owner(tables: &mut [u64], wake: &mut [u64], handle: u32, owner: u32) -> Changed
-    ensures { λ r. ⌜ seen (tableStep (now (tables .entry)) (asks (signal (kill owner) handle) (now (wake .entry)) [])) ≡ (r .answer ∷ r .previous ∷ 0 ∷ r .woken ∷ [], now (wake .exit), [], now (tables .exit)) ⌝ }
+    ensures { λ r. ⌜ seen (tableStep (now (tables .entry)) (asks (signal (kill owner) handle) (wakeLent (now (wake .entry)))))
+        ≡ sees (r .answer ∷ r .previous ∷ 0 ∷ r .woken ∷ []) (wakeLent (now (wake .exit))) (now (tables .exit)) ⌝ }
 {
     let answer = refused(tables, wake);
     if answer != 0 {
@@ -361,7 +376,8 @@ pub fn kill_owner(tables: &mut [u64], wake: &mut [u64], handle: u32, owner: u32)
 }
 
 pub fn set(tables: &mut [u64], wake: &mut [u64], handle: u32) -> Changed
-    ensures { λ r. ⌜ seen (tableStep (now (tables .entry)) (asks (signal setEvent handle) (now (wake .entry)) [])) ≡ (r .answer ∷ r .previous ∷ 0 ∷ r .woken ∷ [], now (wake .exit), [], now (tables .exit)) ⌝ }
+    ensures { λ r. ⌜ seen (tableStep (now (tables .entry)) (asks (signal setEvent handle) (wakeLent (now (wake .entry)))))
+        ≡ sees (r .answer ∷ r .previous ∷ 0 ∷ r .woken ∷ []) (wakeLent (now (wake .exit))) (now (tables .exit)) ⌝ }
 {
     let answer = refused(tables, wake);
     if answer != 0 {
@@ -375,7 +391,8 @@ pub fn set(tables: &mut [u64], wake: &mut [u64], handle: u32) -> Changed
 }
 
 pub fn pulse(tables: &mut [u64], wake: &mut [u64], handle: u32) -> Changed
-    ensures { λ r. ⌜ seen (tableStep (now (tables .entry)) (asks (signal pulseEvent handle) (now (wake .entry)) [])) ≡ (r .answer ∷ r .previous ∷ 0 ∷ r .woken ∷ [], now (wake .exit), [], now (tables .exit)) ⌝ }
+    ensures { λ r. ⌜ seen (tableStep (now (tables .entry)) (asks (signal pulseEvent handle) (wakeLent (now (wake .entry)))))
+        ≡ sees (r .answer ∷ r .previous ∷ 0 ∷ r .woken ∷ []) (wakeLent (now (wake .exit))) (now (tables .exit)) ⌝ }
 {
     let answer = refused(tables, wake);
     if answer != 0 {
@@ -389,7 +406,8 @@ pub fn pulse(tables: &mut [u64], wake: &mut [u64], handle: u32) -> Changed
 }
 
 pub fn expire(tables: &mut [u64], wake: &mut [u64], clock: u32, time: u64) -> Changed
-    ensures { λ r. ⌜ seen (tableStep (now (tables .entry)) (asks (expire clock time) (now (wake .entry)) [])) ≡ (r .answer ∷ r .previous ∷ 0 ∷ r .woken ∷ [], now (wake .exit), [], now (tables .exit)) ⌝ }
+    ensures { λ r. ⌜ seen (tableStep (now (tables .entry)) (asks (expire clock time) (wakeLent (now (wake .entry)))))
+        ≡ sees (r .answer ∷ r .previous ∷ 0 ∷ r .woken ∷ []) (wakeLent (now (wake .exit))) (now (tables .exit)) ⌝ }
 {
     let answer = refused(tables, wake);
     if answer != 0 {
@@ -406,7 +424,8 @@ pub fn expire(tables: &mut [u64], wake: &mut [u64], clock: u32, time: u64) -> Ch
 
 // The text goes to the buffer's front; its length. Room is tested by the least length, which no snapshot reaches.
 pub fn snapshot(tables: &[u64], buffer: &mut [u8]) -> Written
-    ensures { λ r. ⌜ seen (tableStep (now (tables .entry)) (asks snapshot [] (now (buffer .entry)))) ≡ (r .answer ∷ r .length ∷ 0 ∷ 0 ∷ [], [], now (buffer .exit), now (tables .entry)) ⌝ }
+    ensures { λ r. ⌜ seen (tableStep (now (tables .entry)) (asks snapshot (bufferLent (now (buffer .entry)))))
+        ≡ sees (r .answer ∷ r .length ∷ 0 ∷ 0 ∷ []) (bufferLent (now (buffer .exit))) (now (tables .entry)) ⌝ }
 {
     let corrupt = !validity::valid(tables);
     if corrupt {
@@ -446,7 +465,8 @@ pub fn post_woken<'a>(
     handle: u32,
     add: u32,
 ) -> &'a mut [u64]
-    ensures { λ r. ⌜ (handed (tableStep (now (tables .entry)) (asks (signal (post add) handle) (now (wake .entry)) [])) ≡ (now (result .exit), now r, now (tables .exit))) × (ptr r ≡ ptr (wake .entry)) ⌝ }
+    ensures { λ r. ⌜ (handed (tableStep (now (tables .entry)) (asks (signal (post add) handle) (wakeLent (now (wake .entry)))))
+        ≡ hands (now (result .exit)) (now r) (now (tables .exit))) × (ptr r ≡ ptr (wake .entry)) ⌝ }
 {
     let r = post(tables, wake, handle, add);
     *result = [r.answer as u64, r.previous as u64, r.woken as u64];
@@ -460,7 +480,8 @@ pub fn unlock_woken<'a>(
     handle: u32,
     owner: u32,
 ) -> &'a mut [u64]
-    ensures { λ r. ⌜ (handed (tableStep (now (tables .entry)) (asks (signal (unlock owner) handle) (now (wake .entry)) [])) ≡ (now (result .exit), now r, now (tables .exit))) × (ptr r ≡ ptr (wake .entry)) ⌝ }
+    ensures { λ r. ⌜ (handed (tableStep (now (tables .entry)) (asks (signal (unlock owner) handle) (wakeLent (now (wake .entry)))))
+        ≡ hands (now (result .exit)) (now r) (now (tables .exit))) × (ptr r ≡ ptr (wake .entry)) ⌝ }
 {
     let r = unlock(tables, wake, handle, owner);
     *result = [r.answer as u64, r.previous as u64, r.woken as u64];
@@ -474,7 +495,8 @@ pub fn kill_owner_woken<'a>(
     handle: u32,
     owner: u32,
 ) -> &'a mut [u64]
-    ensures { λ r. ⌜ (handed (tableStep (now (tables .entry)) (asks (signal (kill owner) handle) (now (wake .entry)) [])) ≡ (now (result .exit), now r, now (tables .exit))) × (ptr r ≡ ptr (wake .entry)) ⌝ }
+    ensures { λ r. ⌜ (handed (tableStep (now (tables .entry)) (asks (signal (kill owner) handle) (wakeLent (now (wake .entry)))))
+        ≡ hands (now (result .exit)) (now r) (now (tables .exit))) × (ptr r ≡ ptr (wake .entry)) ⌝ }
 {
     let r = kill_owner(tables, wake, handle, owner);
     *result = [r.answer as u64, r.previous as u64, r.woken as u64];
@@ -487,7 +509,8 @@ pub fn set_woken<'a>(
     result: &mut [u64; 3],
     handle: u32,
 ) -> &'a mut [u64]
-    ensures { λ r. ⌜ (handed (tableStep (now (tables .entry)) (asks (signal setEvent handle) (now (wake .entry)) [])) ≡ (now (result .exit), now r, now (tables .exit))) × (ptr r ≡ ptr (wake .entry)) ⌝ }
+    ensures { λ r. ⌜ (handed (tableStep (now (tables .entry)) (asks (signal setEvent handle) (wakeLent (now (wake .entry)))))
+        ≡ hands (now (result .exit)) (now r) (now (tables .exit))) × (ptr r ≡ ptr (wake .entry)) ⌝ }
 {
     let r = set(tables, wake, handle);
     *result = [r.answer as u64, r.previous as u64, r.woken as u64];
@@ -500,7 +523,8 @@ pub fn pulse_woken<'a>(
     result: &mut [u64; 3],
     handle: u32,
 ) -> &'a mut [u64]
-    ensures { λ r. ⌜ (handed (tableStep (now (tables .entry)) (asks (signal pulseEvent handle) (now (wake .entry)) [])) ≡ (now (result .exit), now r, now (tables .exit))) × (ptr r ≡ ptr (wake .entry)) ⌝ }
+    ensures { λ r. ⌜ (handed (tableStep (now (tables .entry)) (asks (signal pulseEvent handle) (wakeLent (now (wake .entry)))))
+        ≡ hands (now (result .exit)) (now r) (now (tables .exit))) × (ptr r ≡ ptr (wake .entry)) ⌝ }
 {
     let r = pulse(tables, wake, handle);
     *result = [r.answer as u64, r.previous as u64, r.woken as u64];
@@ -514,7 +538,8 @@ pub fn expire_woken<'a>(
     clock: u32,
     time: u64,
 ) -> &'a mut [u64]
-    ensures { λ r. ⌜ (handed (tableStep (now (tables .entry)) (asks (expire clock time) (now (wake .entry)) [])) ≡ (now (result .exit), now r, now (tables .exit))) × (ptr r ≡ ptr (wake .entry)) ⌝ }
+    ensures { λ r. ⌜ (handed (tableStep (now (tables .entry)) (asks (expire clock time) (wakeLent (now (wake .entry)))))
+        ≡ hands (now (result .exit)) (now r) (now (tables .exit))) × (ptr r ≡ ptr (wake .entry)) ⌝ }
 {
     let r = expire(tables, wake, clock, time);
     *result = [r.answer as u64, r.previous as u64, r.woken as u64];

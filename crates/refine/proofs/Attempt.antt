@@ -14,7 +14,7 @@ use Rattle.model.specs.Calls.{repeats}
 use Rattle.model.specs.Layout.{modeCell, encode}
 use Rattle.model.specs.Sizes.{objectPlaces, waitPlaces}
 use Rattle.model.specs.Objects.{abandoned, signaled}
-use Rattle.model.specs.Steps.{_isIn_}
+use Rattle.model.specs.Notions.{_isIn_}
 use Rattle.model.specs.Waits.{Mode, any, all, Wait, free, waiting, State, withObjects, objectAt, Grant, lowestSignaled, allSignaled, look, attempt, acquireEach, anyAbandoned}
 use Rattle.model.proofs.Logic.{byBool, _implies_, or-split, passed}
 use Rattle.model.proofs.Acquiring.{all-signaled}

@@ -16,7 +16,8 @@ use Rattle.model.specs.Snapshot.{snapshotText}
 use Rattle.model.specs.Layout.{encode}
 use Rattle.model.specs.Sizes.{objectPlaces, waitPlaces, wakeLength, snapshotBuffer}
 use Rattle.model.specs.Objects.{Object, empty, semaphore, mutex, event, occupied, cleared}
-use Rattle.model.specs.Steps.{Outcome, conditions, firstRefusal, records, completed, libraryStep, onTables, _isIn_}
+use Rattle.model.specs.Steps.{Outcome, conditionsOn, performOn, firstRefusal, records, completed, onTables}
+use Rattle.model.specs.Notions.{_isIn_}
 use Rattle.model.specs.Waits.{Wait, free, State, withWaits, objectAt, putObject, dequeue, anyWaiting, concernedBy, Woken, wakeByWalk}
 use Rattle.model.proofs.Waking.{walk-nothing}
 use Rattle.model.proofs.Logic.{byBool}
@@ -38,18 +39,18 @@ use Rattle.refine.proofs.Waits.{ticket-at, clear-wait, free-ticket, tel
 abbrev pub told : Outcome (List ℕ) → Result
 told o = record { answer = o .answer; first = o .first; second = o .second; woken = length (o .reports); tables = o .held; wake = o .lent .wake; buffer = o .lent .buffer }
 
-abbrev pub means : State → Operation → Lent → Result
-means s op l = told (onTables (libraryStep s (record { operation = op; lent = l })))
+unfoldable pub means : State → Operation → Lent → Result
+means s op l = told (onTables (performOn wakeByWalk s op l))
 
 abbrev pub leaves : Lent → Change → Result
 leaves l d = told (onTables (completed wakeByWalk l d))
 
-pub refused-is : (s : State) (op : Operation) (l : Lent) (n : ℕ) → firstRefusal (conditions (record { operation = op; lent = l }) s) ≡ some n → refusedWith n (encode s) l ≡ means s op l
-unfolding libraryStep
+pub refused-is : (s : State) (op : Operation) (l : Lent) (n : ℕ) → firstRefusal (conditionsOn op l s) ≡ some n → refusedWith n (encode s) l ≡ means s op l
+unfolding means
 refused-is s op l n e = rw e
 
-pub accepted-is : (s : State) (op : Operation) (l : Lent) → firstRefusal (conditions (record { operation = op; lent = l }) s) ≡ none → leaves l (change op s) ≡ means s op l
-unfolding libraryStep
+pub accepted-is : (s : State) (op : Operation) (l : Lent) → firstRefusal (conditionsOn op l s) ≡ none → leaves l (change op s) ≡ means s op l
+unfolding means
 accepted-is s op l e = rw e
 
 -- a change that wakes nobody

@@ -19,7 +19,7 @@ use Rattle.model.proofs.Tables.{initial-tables}
 use Rattle.model.proofs.Valid.{Valid}
 use Rattle.cells.specs.Calls.{onCells, callCells, madeCells, makeCells}
 use Rattle.cells.specs.Fold.{foldBelow}
-use Rattle.refine.proofs.Calls.{told, create-is, close-is, read-is, reset-is, signal-is, expire-is, cancel-is, snapshot-is}
+use Rattle.refine.proofs.Calls.{told, means, create-is, close-is, read-is, reset-is, signal-is, expire-is, cancel-is, snapshot-is}
 use Rattle.refine.proofs.Fold.{fold-clears}
 use Rattle.refine.proofs.Validity.{Words, valid-cells}
 use Rattle.refine.proofs.Wait.{wait-is}
@@ -31,6 +31,7 @@ use Rattle.cells.specs.Validity.{validCells}
 
 -- on the tables of a valid state
 pub call-is : (op : Operation) (l : Lent) (s : State) → Valid s → onCells op (encode s) l ≡ told (onTables (libraryStep s (record { operation = op; lent = l })))
+unfolding libraryStep means
 call-is (create k x y) l s g = create-is s g k x y l
 call-is (close h) l s g = close-is s g h l
 call-is (resetEvent h) l s g = reset-is s g h l

@@ -15,7 +15,7 @@ use Rattle.model.specs.Snapshot.{ascii, line, objectText, objectsText, objectCo
 use Rattle.model.specs.Layout.{modeCell, encode, distinctTickets}
 use Rattle.model.specs.Sizes.{objectPlaces, waitPlaces}
 use Rattle.model.specs.Objects.{Object, empty, semaphore, mutex, event, occupied}
-use Rattle.model.specs.Steps.{_isIn_}
+use Rattle.model.specs.Notions.{_isIn_}
 use Rattle.model.specs.Waits.{Mode, any, all, Wait, WaitPlace, free, waiting, State, objectAt, oldest, anyWaiting}
 use Rattle.model.proofs.Waking.{each}
 use Rattle.model.proofs.Logic.{byBool, byOption, and-split, eqb-same}

@@ -16,8 +16,8 @@ use Rattle.model.specs.Sizes.{objectPlaces, waitPlaces, maxListed, word32, word
 use Rattle.model.specs.Objects.{semaphore, mutex, event, occupied, abandoned}
 use Rattle.model.specs.ValidCells.{Occupied, OfEvent, ValidObject, ValidWait, ValidCells}
 use Rattle.model.specs.Waits.{free}
-use Rattle.model.proofs.Logic.{byBool, clash, same-tests, or-left, or-right, or-split, passed, pass}
-use Rattle.model.proofs.Literal.{same-zero, zero-same, byNumber, member-at, at-member, repeat-once, once-repeat, test-lines, lines-test}
+use Rattle.model.proofs.Logic.{byBool, clash, same-tests, or-left, or-right, or-split, passed, pass, member-at, at-member}
+use Rattle.model.proofs.Literal.{same-zero, zero-same, byNumber, repeat-once, once-repeat, test-lines, lines-test}
 use Rattle.cells.specs.Waits.{waitCell, ticketAt, modeAt, ownerAt, clockAt, countAt, alertAt, listOf, has}
 use Rattle.cells.specs.Objects.{Fields, noFields, fieldsAt, named}
 use Rattle.cells.specs.Validity.{validFields, occupiedAt, eventAt, tooFew, occupiedList, repeatedList, unusedZero, aloneAt, validQueued, validFree, validPlace, validCells}

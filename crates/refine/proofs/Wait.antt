@@ -10,13 +10,13 @@ use native.Mathlib.Numerals.{add-one}
 use lib.ListN.{length, getD, set, replicate, take, length-append}
 use lib.Seq.{sets, take-append-add, getD-set-other, set-getD}
 use lib.Dec.{eqb, ltb, leb}
-use borrow.Author.Tests.{ltb-true, ltb-false, eqb-true, lt-ltb, le-ltb, ne-eqb}
+use borrow.Author.Tests.{ltb-true, ltb-false, eqb-true, eqb-false, lt-ltb, le-ltb, le-leb, lt-leb, ne-eqb}
 use Rattle.model.specs.Basics.{maybe, anyOf, hasRepeat, tabulate}
 use Rattle.model.specs.Calls.{Operation, wait, Lent, least, listTooShort, repeats, waitFaults, timeUp, newWait, waitsFull, enqueue, refusals, answers, admits, change}
 use Rattle.model.specs.Layout.{headerSize, modeCell, waitCells, encode}
-use Rattle.model.specs.Sizes.{waitPlaces, maxListed, word64}
+use Rattle.model.specs.Sizes.{waitPlaces, maxListed, word64, ticketsEnd}
 use Rattle.model.specs.Steps.{firstRefusal}
-use Rattle.model.specs.Waits.{Mode, any, all, Wait, WaitPlace, free, waiting, State, withObjects, withWaits, Grant, attempt, acquireEach, servedAnswer}
+use Rattle.model.specs.Waits.{Mode, any, all, Wait, WaitPlace, free, waiting, State, withObjects, withWaits, Grant, attempt, acquireEach, servedAnswer, withNext}
 use Rattle.model.proofs.Logic.{byBool, byOption, fault-free}
 use Rattle.model.proofs.Valid.{Valid}
 use Rattle.cells.specs.Waits.{waitCell, nextTicket, ticketAt, has}
@@ -105,7 +105,7 @@ search-enqueue w (waiting v ∷ ws) i f e = let a : f i ≡ false = ap f (sym (a
     let b = (search-is f (suc i) (length ws)) .low in let z : searchFrom f (suc i) (length ws) - i ≡ suc (searchFrom f (suc i) (length ws) - suc i) = omega arith in
     rw (a, z) (ap (λ (l : List WaitPlace). waiting v ∷ l) (search-enqueue w ws (suc i) f (λ k l. ap f (suc-add i k ∙ sym (add-suc i k)) ∙ e (suc k) (omega arith))))
 
-next-cell : (s : State) (n : ℕ) → set (encode s) 0 n ≡ encode (record { objects = s .objects; waits = s .waits; next = n })
+next-cell : (s : State) (n : ℕ) → set (encode s) 0 n ≡ encode (withNext s n)
 unfolding encode
 next-cell s n = refl
 
@@ -134,7 +134,7 @@ module _ (s : State) (g : Valid s) where
       ∙ ap (λ (n : ℕ). set (s .waits) n (waiting w)) (let z : searchFrom freeTest 0 (length (s .waits)) - 0 ≡ searchFrom freeTest 0 (length (s .waits)) = omega arith in z ∙ ap (searchFrom freeTest 0) q)
 
   queue-is : (w : Wait) → w .ticket ≡ s .next → emptyWait (encode s) < waitPlaces → length (w .list) ≤ maxListed
-      → queueCells (encode s) (emptyWait (encode s)) (modeCell (w .mode)) (w .list) (w .owner) (w .clock) (w .alert) (w .timeout) ≡ encode (record { objects = s .objects; waits = enqueue w (s .waits); next = suc (s .next) })
+      → queueCells (encode s) (emptyWait (encode s)) (modeCell (w .mode)) (w .list) (w .owner) (w .clock) (w .alert) (w .timeout) ≡ encode (withNext (withWaits s (enqueue w (s .waits))) (suc (s .next)))
   unfolding queueCells
   queue-is w t l n =
       let p : ℕ = emptyWait (encode s) in
@@ -158,6 +158,12 @@ module _ (s : State) (g : Valid s) where
   unfolding badWait occupiedList
   bad-is mode hs o f p a = rw (few-is mode hs, all-occupied-is (s .objects) hs (λ k. occupiedAt (encode s) (getD hs k 0)) (λ k. occupied-at s (g .places) (getD hs k 0)), event-at s (g .places) a, repeats-is mode hs a)
 
+-- 64 bits hold one ticket more exactly where the next ticket is not the end
+spent-is : (n : ℕ) → n < word64 → leb word64 (suc n) ≡ eqb n ticketsEnd
+spent-is n l = byBool (eqb n ticketsEnd)
+    (λ y. let e : n ≡ ticketsEnd = eqb-true n ticketsEnd y in le-leb word64 (suc n) (omega arith) ∙ sym y)
+    (λ f. let e : n ≡ ticketsEnd → ⊥ = eqb-false n ticketsEnd f in lt-leb word64 (suc n) (omega (arith, e)) ∙ sym f)
+
 -- A WAIT
 module _ (s : State) (g : Valid s) (mode : Mode) (hs : List ℕ) (o f p a time now : ℕ) (l : Lent) where
   abbrev op : Operation
@@ -173,11 +179,12 @@ module _ (s : State) (g : Valid s) (mode : Mode) (hs : List ℕ) (o f p a time n
       (λ u. byBool (waitsFull (s .waits))
       (λ y. let e : ltb (emptyWait (encode s)) waitPlaces ≡ false = empty-full s g ∙ ap not y in rw (u, e) (refused-is s op l 7 (rw (any-length (l .wake), any-length (l .buffer), ok, miss, u, y))))
       (λ y. let e : ltb (emptyWait (encode s)) waitPlaces ≡ true = empty-full s g ∙ ap not y in let nt : nextTicket (encode s) + 1 ≡ suc (s .next) = ap (λ (n : ℕ). n + 1) (read-next s) ∙ add-one (s .next) in
-      byBool (leb word64 (suc (s .next)))
-      (λ z. rw (u, e, nt, z) (refused-is s op l 8 (rw (any-length (l .wake), any-length (l .buffer), ok, miss, u, y, z))))
+      let sp : leb word64 (suc (s .next)) ≡ eqb (s .next) ticketsEnd = spent-is (s .next) (g .bounded) in
+      byBool (eqb (s .next) ticketsEnd)
+      (λ z. rw (u, e, nt, sp, z) (refused-is s op l 8 (rw (any-length (l .wake), any-length (l .buffer), ok, miss, u, y, z))))
       (λ z. let q = queue-is s g w refl (ltb-true _ _ e) (ltb-false maxListed (length hs) (fault-free (waitFaults mode hs o f p a (s .objects)) ok 1)) in
-      rw (u, e, nt, z, q, read-next s) (plain (record { objects = s .objects; waits = enqueue w (s .waits); next = suc (s .next) }) l 11 0 (s .next)
-      ∙ (let c : answers 11 0 (s .next) (record { objects = s .objects; waits = enqueue w (s .waits); next = suc (s .next) }) ≡ admits w now s = rw (miss, u) in ap (leaves l) c)
+      rw (u, e, nt, sp, z, q, read-next s) (plain (withNext (withWaits s (enqueue w (s .waits))) (suc (s .next))) l 11 0 (s .next)
+      ∙ (let c : answers 11 0 (s .next) (withNext (withWaits s (enqueue w (s .waits))) (suc (s .next))) ≡ admits w now s = rw (miss, u) in ap (leaves l) c)
       ∙ accepted-is s op l (rw (any-length (l .wake), any-length (l .buffer), ok, miss, u, y, z))))))
 
   served-is : (t : Grant) → anyOf (waitFaults mode hs o f p a (s .objects)) ≡ false → attempt (s .objects) w ≡ some t

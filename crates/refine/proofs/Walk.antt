@@ -6,8 +6,7 @@ use mathlib.Core.Option.{Option, none, some}
 use mathlib.Core.Logic.{⊎-elim}
 use Prim.Native.Nat.{ℕ, zero, suc, _+_, _*_, _≤_, _<_}
 use native.Mathlib.Omega.{arith}
-use lib.ListN.{length, getD, drop, length-append, length-drop}
-use lib.Seq.{sets, sets-eq, drop-drop}
+use lib.ListN.{length, getD, length-append}
 use lib.Dec.{ltb}
 use borrow.Author.Tests.{lt-ltb}
 use Rattle.model.specs.Basics.{overwrite}
@@ -15,12 +14,15 @@ use Rattle.model.specs.Calls.{endEach}
 use Rattle.model.specs.Layout.{encode}
 use Rattle.model.specs.Sizes.{waitPlaces, wakeLength}
 use Rattle.model.specs.Steps.{records}
-use Rattle.model.specs.Waits.{Wait, free, waiting, State, withObjects, withWaits, Grant, attempt, acquireEach, servedAnswer, dequeue, oldest, concernedBy, Report, Woken, noneWoken, andThen, serve, tryToServe, walkQueue, wakeByWalk}
+use Rattle.model.specs.Waits.{Wait, free, waiting, State, withObjects, withWaits, Grant, attempt, acquireEach}
+use Rattle.model.specs.Waits.{servedAnswer, dequeue, oldest, concernedBy, Report, Woken, noneWoken, andThen, serve}
+use Rattle.model.specs.Waits.{tryToServe, walkQueue, wakeByWalk}
 use Rattle.model.proofs.Waking.{visit}
 use Rattle.model.proofs.Logic.{byBool, byOption, differ}
 use Rattle.model.proofs.Rules.{due}
+use Rattle.model.proofs.Reports.{records-length}
 use Rattle.model.proofs.Valid.{Valid, valid-dequeue, valid-take}
-use Rattle.model.proofs.Cells.{at-in, sets-right, Holds, holds}
+use Rattle.model.proofs.Cells.{at-in, overwrite-more, Holds, holds}
 use Rattle.cells.specs.Walk.{Walked, walked, report, Concern, settle, visitCells, walkCells, wakeCells, dueAt, endCells}
 use Rattle.cells.specs.Waits.{ticketAt, namesAt, lowest, nextWait, putRecord}
 use Rattle.refine.proofs.Attempt.{try-at}
@@ -30,30 +32,19 @@ use Rattle.refine.proofs.Waits.{ticket-at, names-at, clear-wait, tells-
 abbrev pub filled : List Report → List ℕ → List ℕ
 filled rs wake = overwrite (records rs) wake
 
-pub records-length : (rs : List Report) → length (records rs) ≡ 3 * length rs
-unfolding records
-records-length [] = refl
-records-length (r ∷ rs) = let ih = records-length rs in omega arith
-
 records-more : (rs : List Report) (r : Report) → records (rs ++ (r ∷ [])) ≡ records rs ++ (r .ticket ∷ r .answer ∷ r .index ∷ [])
 unfolding records
 records-more [] r = refl
 records-more (x ∷ rs) r = ap (λ (l : List ℕ). x .ticket ∷ x .answer ∷ x .index ∷ l) (records-more rs r)
 
-pub put-record : (rs : List Report) (r : Report) (wake : List ℕ) → 3 * length rs + 3 ≤ length wake
+pub put-record : (rs : List Report) (r : Report) (wake : List ℕ)
     → putRecord (filled rs wake) (length rs) (r .ticket) (r .answer) (r .index) ≡ filled (rs ++ (r ∷ [])) wake
 unfolding putRecord
-put-record rs r wake l =
-    let n : length (records rs) ≡ 3 * length rs = records-length rs in
-    let vs : List ℕ = r .ticket ∷ r .answer ∷ r .index ∷ [] in
-    let D : List ℕ = drop (length (records rs)) wake in
-    let dl : 3 ≤ length D = rw (length-drop (length (records rs)) wake) (omega arith) in
-    let e0 : 3 * length rs ≡ length (records rs) + 0 = omega arith in
-    let e1 : length (records rs) + 0 + 1 ≡ suc (length (records rs) + 0) = omega arith in
-    let e2 : length (records rs) + 0 + 2 ≡ suc (suc (length (records rs) + 0)) = omega arith in
-    let w : sets (filled rs wake) (length (records rs) + 0) vs ≡ records rs ++ (vs ++ drop 3 D) = sets-right (records rs) D vs 0 ∙ ap (λ (q : List ℕ). records rs ++ q) (sets-eq vs D 0 dl) in
-    let z : length (records rs ++ vs) ≡ length (records rs) + 3 = length-append (records rs) vs in
-    rw (e0, e1, e2, records-more rs r, z) (w ∙ rw (drop-drop 3 (length (records rs)) wake) (sym (append-assoc (records rs) vs (drop (length (records rs) + 3) wake))))
+put-record rs r wake =
+    let n : 3 * length rs ≡ length (records rs) = sym (records-length rs) in
+    let e1 : length (records rs) + 1 ≡ suc (length (records rs)) = omega arith in
+    let e2 : length (records rs) + 2 ≡ suc (suc (length (records rs))) = omega arith in
+    rw (n, e1, e2, records-more rs r) (overwrite-more (records rs) wake (r .ticket ∷ r .answer ∷ r .index ∷ []))
 
 -- a walk that has written the reports rs and stands at s; what it leaves, by what waking leaves
 abbrev pub standing : List Report → List ℕ → State → Walked
@@ -77,7 +68,7 @@ report-is s s′ p w answer index g g′ q l e rs wake b =
     let r : Report = record { ticket = w .ticket; answer = answer; index = index } in
     let n : length (rs ++ (r ∷ [])) ≡ length rs + 1 = length-append rs (r ∷ []) in
     let e′ : getD (s′ .waits) p free ≡ waiting w = rw q e in
-    rw (ticket-at s p w (holds s p w g l e), put-record rs r wake (omega arith), clear-wait s′ p w (holds s′ p w g′ l e′) (g′ .distinct), q, n)
+    rw (ticket-at s p w (holds s p w g l e), put-record rs r wake, clear-wait s′ p w (holds s′ p w g′ l e′) (g′ .distinct), q, n)
 
 -- a visit
 module _ (C : Concern) (changed : List ℕ) (tells : (s : State) (p : ℕ) (w : Wait) → Valid s → Holds s p w → C (encode s) p ≡ concernedBy changed w) where

@@ -7,7 +7,7 @@ ghost use Prim.Native.Nat.{_≤_};
 ghost use lib.ListN.{length};
 ghost use Rattle.model.specs.Sizes.{wakeLength};
 ghost use Rattle.model.specs.Layout.{tableLength};
-ghost use Rattle.model.specs.Calls.{lend, post, unlock, kill, setEvent, pulseEvent};
+ghost use Rattle.model.specs.Calls.{wakeLent, post, unlock, kill, setEvent, pulseEvent};
 ghost use Rattle.cells.specs.Objects.{named};
 ghost use Rattle.cells.specs.Validity.{validCells};
 ghost use Rattle.cells.specs.Calls.{signalOn, expireOn};
@@ -46,7 +46,7 @@ fn apply(t: &mut [u64], wake: &mut [u64], h: u64, previous: u32, c: Change) -> C
 
 pub fn post(t: &mut [u64], wake: &mut [u64], h: u64, add: u64) -> Changed
     requires { ⌜ (length (now t) ≡ tableLength) × (validCells (now t) ≡ true) × (wakeLength ≤ length (now wake)) ⌝ }
-    ensures { λ r. ⌜ leftBy r (now (t .exit)) (now (wake .exit)) ≡ signalOn (post add) h (named (now (t .entry)) h) (now (t .entry)) (lend (now (wake .entry)) []) ⌝ }
+    ensures { λ r. ⌜ leftBy r (now (t .exit)) (now (wake .exit)) ≡ signalOn (post add) h (named (now (t .entry)) h) (now (t .entry)) (wakeLent (now (wake .entry))) ⌝ }
 {
     let o = tables::named(t, h);
     let previous = o.count as u32;
@@ -56,7 +56,7 @@ pub fn post(t: &mut [u64], wake: &mut [u64], h: u64, add: u64) -> Changed
 
 pub fn unlock(t: &mut [u64], wake: &mut [u64], h: u64, asking: u64) -> Changed
     requires { ⌜ (length (now t) ≡ tableLength) × (validCells (now t) ≡ true) × (wakeLength ≤ length (now wake)) ⌝ }
-    ensures { λ r. ⌜ leftBy r (now (t .exit)) (now (wake .exit)) ≡ signalOn (unlock asking) h (named (now (t .entry)) h) (now (t .entry)) (lend (now (wake .entry)) []) ⌝ }
+    ensures { λ r. ⌜ leftBy r (now (t .exit)) (now (wake .exit)) ≡ signalOn (unlock asking) h (named (now (t .entry)) h) (now (t .entry)) (wakeLent (now (wake .entry))) ⌝ }
 {
     let o = tables::named(t, h);
     let previous = o.count as u32;
@@ -66,7 +66,7 @@ pub fn unlock(t: &mut [u64], wake: &mut [u64], h: u64, asking: u64) -> Changed
 
 pub fn kill(t: &mut [u64], wake: &mut [u64], h: u64, asking: u64) -> Changed
     requires { ⌜ (length (now t) ≡ tableLength) × (wakeLength ≤ length (now wake)) ⌝ }
-    ensures { λ r. ⌜ leftBy r (now (t .exit)) (now (wake .exit)) ≡ signalOn (kill asking) h (named (now (t .entry)) h) (now (t .entry)) (lend (now (wake .entry)) []) ⌝ }
+    ensures { λ r. ⌜ leftBy r (now (t .exit)) (now (wake .exit)) ≡ signalOn (kill asking) h (named (now (t .entry)) h) (now (t .entry)) (wakeLent (now (wake .entry))) ⌝ }
 {
     let o = tables::named(t, h);
     let c = o.kill(asking);
@@ -75,7 +75,7 @@ pub fn kill(t: &mut [u64], wake: &mut [u64], h: u64, asking: u64) -> Changed
 
 pub fn set(t: &mut [u64], wake: &mut [u64], h: u64) -> Changed
     requires { ⌜ (length (now t) ≡ tableLength) × (validCells (now t) ≡ true) × (wakeLength ≤ length (now wake)) ⌝ }
-    ensures { λ r. ⌜ leftBy r (now (t .exit)) (now (wake .exit)) ≡ signalOn setEvent h (named (now (t .entry)) h) (now (t .entry)) (lend (now (wake .entry)) []) ⌝ }
+    ensures { λ r. ⌜ leftBy r (now (t .exit)) (now (wake .exit)) ≡ signalOn setEvent h (named (now (t .entry)) h) (now (t .entry)) (wakeLent (now (wake .entry))) ⌝ }
 {
     let o = tables::named(t, h);
     let previous = o.count as u32;
@@ -86,7 +86,7 @@ pub fn set(t: &mut [u64], wake: &mut [u64], h: u64) -> Changed
 // As set; then the event is cleared, whoever took it.
 pub fn pulse(t: &mut [u64], wake: &mut [u64], h: u64) -> Changed
     requires { ⌜ (length (now t) ≡ tableLength) × (validCells (now t) ≡ true) × (wakeLength ≤ length (now wake)) ⌝ }
-    ensures { λ r. ⌜ leftBy r (now (t .exit)) (now (wake .exit)) ≡ signalOn pulseEvent h (named (now (t .entry)) h) (now (t .entry)) (lend (now (wake .entry)) []) ⌝ }
+    ensures { λ r. ⌜ leftBy r (now (t .exit)) (now (wake .exit)) ≡ signalOn pulseEvent h (named (now (t .entry)) h) (now (t .entry)) (wakeLent (now (wake .entry))) ⌝ }
 {
     let r = set(t, wake, h);
     if r.answer != 0 {
@@ -101,7 +101,7 @@ pub fn pulse(t: &mut [u64], wake: &mut [u64], h: u64) -> Changed
 // Clocks 0 and 1 are known.
 pub fn expire(t: &mut [u64], wake: &mut [u64], clock: u64, time: u64) -> Changed
     requires { ⌜ (length (now t) ≡ tableLength) × (wakeLength ≤ length (now wake)) ⌝ }
-    ensures { λ r. ⌜ leftBy r (now (t .exit)) (now (wake .exit)) ≡ expireOn clock time (now (t .entry)) (lend (now (wake .entry)) []) ⌝ }
+    ensures { λ r. ⌜ leftBy r (now (t .exit)) (now (wake .exit)) ≡ expireOn clock time (now (t .entry)) (wakeLent (now (wake .entry))) ⌝ }
 {
     if 1 < clock {
         return Changed {

@@ -4,7 +4,7 @@ ghost use mathlib.Core.List.{[]};
 ghost use Prim.Native.Nat.{_≤_};
 ghost use lib.ListN.{length, take};
 ghost use Rattle.model.specs.Sizes.{maxListed};
-ghost use Rattle.model.specs.Calls.{lend};
+ghost use Rattle.model.specs.Calls.{nothingLent};
 ghost use Rattle.model.specs.Layout.{tableLength};
 ghost use Rattle.cells.specs.Calls.{badWait, laterCells, actCells, waitOnCells};
 ghost use Rattle.waits.specs.Values.{waitedBy};
@@ -66,7 +66,7 @@ fn later(
     time: u64,
 ) -> Waited
     requires { ⌜ (length (now t) ≡ tableLength) × (length (now list) ≤ maxListed) ⌝ }
-    ensures { λ r. ⌜ waitedBy r (now (t .exit)) ≡ laterCells mode (now (list .entry)) asking flags alert timeout time (now (t .entry)) (lend [] []) ⌝ }
+    ensures { λ r. ⌜ waitedBy r (now (t .exit)) ≡ laterCells mode (now (list .entry)) asking flags alert timeout time (now (t .entry)) nothingLent ⌝ }
 {
     let up = attempt::time_up(timeout, time);
     if up {
@@ -100,7 +100,7 @@ fn act(
     time: u64,
 ) -> Waited
     requires { ⌜ (length (now t) ≡ tableLength) × (length (now list) ≤ maxListed) ⌝ }
-    ensures { λ r. ⌜ waitedBy r (now (t .exit)) ≡ actCells mode (now (list .entry)) asking flags alert timeout time (now (t .entry)) (lend [] []) ⌝ }
+    ensures { λ r. ⌜ waitedBy r (now (t .exit)) ≡ actCells mode (now (list .entry)) asking flags alert timeout time (now (t .entry)) nothingLent ⌝ }
 {
     let a = attempt::try_list(t, mode, asking, alert, list);
     if a.served {
@@ -139,7 +139,7 @@ pub fn wait(
     time: u64,
 ) -> Waited
     requires { ⌜ length (now t) ≡ tableLength ⌝ }
-    ensures { λ r. ⌜ waitedBy r (now (t .exit)) ≡ waitOnCells mode (now (list .entry)) asking flags pad alert timeout time (now (t .entry)) (lend [] []) ⌝ }
+    ensures { λ r. ⌜ waitedBy r (now (t .exit)) ≡ waitOnCells mode (now (list .entry)) asking flags pad alert timeout time (now (t .entry)) nothingLent ⌝ }
 {
     let n = list.len();
     if tables::MAX_LISTED < n {

@@ -1,6 +1,7 @@
 use Rattle.ntsync.proofs.Laws.{front-room}
 use Rattle.caller.proofs.Laws.{first-none, first-some}
-use Rattle.model.specs.Calls.{signal, post, asks}
+use Rattle.model.specs.Calls.{signal, post, wakeLent, asks}
+use Rattle.model.specs.Steps.{Seen}
 use mathlib.Core.List.{List, []}
 use mathlib.Core.Path.{sym, ap, _∙_}
 use Prim.Native.Nat.{ℕ, _*_}
@@ -28,11 +29,11 @@ mul-end c = search needs
 
 -- src/lib.rt:17:16
 slice-relend-prefix-part : tie.Need-slice-relend-prefix-part
-slice-relend-prefix-part c = let a = c .before .before .before .before .before .before .before .before .before .before .args in front-room (a .tables .now) (asks (signal (post (a .add)) (a .handle)) (a .wake .now) []) (c .before .before .before .before .before .post .ensures)
+slice-relend-prefix-part c = let a = c .before .before .before .before .before .before .before .before .before .before .args in front-room (a .tables .now) (asks (signal (post (a .add)) (a .handle)) (wakeLent (a .wake .now))) (c .before .before .before .before .before .post .ensures)
 
 -- src/lib.rt:17:9
 slice-aggregate-part : tie.Need-slice-aggregate-part
-slice-aggregate-part c = let a = c .before .before .before .before .before .before .before .before .before .before .before .args in sym (length-take-le (3 * c .before .before .before .before .before .before .post .result .woken) _ (front-room (a .tables .now) (asks (signal (post (a .add)) (a .handle)) (a .wake .now) []) (c .before .before .before .before .before .before .post .ensures)))
+slice-aggregate-part c = let a = c .before .before .before .before .before .before .before .before .before .before .before .args in sym (length-take-le (3 * c .before .before .before .before .before .before .post .result .woken) _ (front-room (a .tables .now) (asks (signal (post (a .add)) (a .handle)) (wakeLent (a .wake .now))) (c .before .before .before .before .before .before .post .ensures)))
 
 -- src/lib.rt:19:9
 same-length : tie.Need-same-length
@@ -44,7 +45,7 @@ same-length-2 c = search needs
 
 -- src/lib.rt:19:9
 returns : tie.Need-returns
-returns c = let a = c .before .before .before .before .before .before .before .before .before .before .before .before .before .before .args in (first-none (a .tables .now) (asks (signal (post (a .add)) (a .handle)) (a .wake .now) []) (c .before .before .before .before .before .before .before .before .before .post .ensures) (c .before .before .if1 .taken), (ap (λ (s : List ℕ × List ℕ × List ℕ × List ℕ). s .1) (c .before .before .before .before .before .before .before .before .before .post .ensures) ∙ sym (take-append-drop (3 * c .before .before .before .before .before .before .before .before .before .post .result .woken) _), ap (λ (s : List ℕ × List ℕ × List ℕ × List ℕ). s .3) (c .before .before .before .before .before .before .before .before .before .post .ensures)))
+returns c = let a = c .before .before .before .before .before .before .before .before .before .before .before .before .before .before .args in (first-none (a .tables .now) (asks (signal (post (a .add)) (a .handle)) (wakeLent (a .wake .now))) (c .before .before .before .before .before .before .before .before .before .post .ensures) (c .before .before .if1 .taken), (ap (λ (s : Seen). s .lent .wake) (c .before .before .before .before .before .before .before .before .before .post .ensures) ∙ sym (take-append-drop (3 * c .before .before .before .before .before .before .before .before .before .post .result .woken) _), ap (λ (s : Seen). s .tables) (c .before .before .before .before .before .before .before .before .before .post .ensures)))
 
 -- src/lib.rt:21:5
 slice-read-result : tie.Need-slice-read-result
@@ -60,7 +61,7 @@ same-length-4 c = search needs
 
 -- src/lib.rt:10:1
 returns-2 : tie.Need-returns-2
-returns-2 c = let a = c .before .before .before .before .before .before .before .before .before .before .before .before .before .before .before .args in (first-some (a .tables .now) (asks (signal (post (a .add)) (a .handle)) (a .wake .now) []) (c .before .before .before .before .before .before .before .before .before .before .post .ensures), (ap (λ (s : List ℕ × List ℕ × List ℕ × List ℕ). s .1) (c .before .before .before .before .before .before .before .before .before .before .post .ensures) ∙ sym (take-append-drop (3 * c .before .before .before .before .before .before .before .before .before .before .post .result .woken) _), ap (λ (s : List ℕ × List ℕ × List ℕ × List ℕ). s .3) (c .before .before .before .before .before .before .before .before .before .before .post .ensures)))
+returns-2 c = let a = c .before .before .before .before .before .before .before .before .before .before .before .before .before .before .before .args in (first-some (a .tables .now) (asks (signal (post (a .add)) (a .handle)) (wakeLent (a .wake .now))) (c .before .before .before .before .before .before .before .before .before .before .post .ensures), (ap (λ (s : Seen). s .lent .wake) (c .before .before .before .before .before .before .before .before .before .before .post .ensures) ∙ sym (take-append-drop (3 * c .before .before .before .before .before .before .before .before .before .before .post .result .woken) _), ap (λ (s : Seen). s .tables) (c .before .before .before .before .before .before .before .before .before .before .post .ensures)))
 
 pub post-first-spec : {M : Type 1} → statement M
 post-first-spec =

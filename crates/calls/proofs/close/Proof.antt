@@ -1,5 +1,5 @@
 use mathlib.Core.List.{List, []}
-use Rattle.model.specs.Calls.{lend}
+use Rattle.model.specs.Calls.{nothingLent}
 use Rattle.calls.proofs.Laws.{close-none, close-busy, close-done}
 use native.Mathlib.Omega.{arith}
 use borrow.Author.Needs.{needs}
@@ -21,7 +21,7 @@ same-length c = search needs
 
 -- src/lib.rt:86:9
 returns : tie.Need-returns
-returns c = let a = c .before .before .before .before .args in close-none (a .t .now) (lend [] []) (a .h) (c .before .occupied .ensures) (c .if1 .taken)
+returns c = let a = c .before .before .before .before .args in close-none (a .t .now) nothingLent (a .h) (c .before .occupied .ensures) (c .if1 .taken)
 
 -- src/lib.rt:92:9
 busy-requires : tie.Need-busy-requires
@@ -33,7 +33,7 @@ same-length-2 c = search needs
 
 -- src/lib.rt:94:9
 returns-2 : tie.Need-returns-2
-returns-2 c = let a = c .before .before .before .before .before .before .before .args in close-busy (a .t .now) (lend [] []) (a .h) (c .before .before .before .before .occupied .ensures) (c .before .before .before .if1 .left) (c .before .busy .ensures) (c .if2 .taken)
+returns-2 c = let a = c .before .before .before .before .before .before .before .args in close-busy (a .t .now) nothingLent (a .h) (c .before .before .before .before .occupied .ensures) (c .before .before .before .if1 .left) (c .before .busy .ensures) (c .if2 .taken)
 
 -- src/lib.rt:100:5
 store-requires : tie.Need-store-requires
@@ -45,7 +45,7 @@ same-length-3 c = search needs
 
 -- src/lib.rt:80:1
 returns-3 : tie.Need-returns-3
-returns-3 c = let a = c .before .before .before .before .before .before .before .before .before .before .before .args in rw (c .before .before .store .ensures) (close-done (a .t .now) (lend [] []) (a .h) (c .before .before .before .before .before .before .before .before .occupied .ensures) (c .before .before .before .before .before .before .before .if1 .left) (c .before .before .before .before .before .busy .ensures) (c .before .before .before .before .if2 .left))
+returns-3 c = let a = c .before .before .before .before .before .before .before .before .before .before .before .args in rw (c .before .before .store .ensures) (close-done (a .t .now) nothingLent (a .h) (c .before .before .before .before .before .before .before .before .occupied .ensures) (c .before .before .before .before .before .before .before .if1 .left) (c .before .before .before .before .before .busy .ensures) (c .before .before .before .before .if2 .left))
 
 pub close-spec : {M : Type 1} → statement M
 close-spec =

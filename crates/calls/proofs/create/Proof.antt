@@ -1,5 +1,5 @@
 use mathlib.Core.List.{List, []}
-use Rattle.model.specs.Calls.{lend}
+use Rattle.model.specs.Calls.{nothingLent}
 use Rattle.kinds.specs.Values.{cellsOf}
 use Rattle.calls.proofs.Laws.{create-bad, create-done, create-full}
 use native.Mathlib.Omega.{arith}
@@ -13,7 +13,7 @@ use Rattle.tables.proofs.put_object.Reads as put-object-reads
 
 -- src/lib.rt:34:9
 returns : tie.Need-returns
-returns c = let a = c .before .before .args in create-bad (a .t .now) (lend [] []) (cellsOf (a .o)) (c .if1 .taken)
+returns c = let a = c .before .before .args in create-bad (a .t .now) nothingLent (cellsOf (a .o)) (c .if1 .taken)
 
 -- src/lib.rt:40:9
 empty-object-requires : tie.Need-empty-object-requires
@@ -37,7 +37,7 @@ same-length c = search needs
 
 -- src/lib.rt:43:9
 returns-2 : tie.Need-returns-2
-returns-2 c = let a = c .before .before .before .before .before .before .before .before .before .args in rw (c .before .before .put-object .ensures) (create-done (a .t .now) (lend [] []) (cellsOf (a .o)) (c .before .before .before .before .before .before .before .if1 .left) (c .before .before .before .before .before .empty-object .ensures) (c .before .before .before .before .if2 .taken))
+returns-2 c = let a = c .before .before .before .before .before .before .before .before .before .args in rw (c .before .before .put-object .ensures) (create-done (a .t .now) nothingLent (cellsOf (a .o)) (c .before .before .before .before .before .before .before .if1 .left) (c .before .before .before .before .before .empty-object .ensures) (c .before .before .before .before .if2 .taken))
 
 -- src/lib.rt:29:1
 same-length-2 : tie.Need-same-length-2
@@ -45,7 +45,7 @@ same-length-2 c = search needs
 
 -- src/lib.rt:29:1
 returns-3 : tie.Need-returns-3
-returns-3 c = let a = c .before .before .before .before .before .args in create-full (a .t .now) (lend [] []) (cellsOf (a .o)) (c .before .before .before .if1 .left) (c .before .empty-object .ensures) (c .if2 .left)
+returns-3 c = let a = c .before .before .before .before .before .args in create-full (a .t .now) nothingLent (cellsOf (a .o)) (c .before .before .before .if1 .left) (c .before .empty-object .ensures) (c .if2 .left)
 
 pub create-spec : {M : Type 1} → statement M
 create-spec =

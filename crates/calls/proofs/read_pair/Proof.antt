@@ -1,6 +1,6 @@
 use Rattle.refine.proofs.Validity.{small-of}
 use mathlib.Core.List.{List, []}
-use Rattle.model.specs.Calls.{lend}
+use Rattle.model.specs.Calls.{nothingLent}
 use Rattle.kinds.specs.Values.{cellsOf}
 use Rattle.calls.proofs.Laws.{pair-read, pair-none}
 use native.Mathlib.Omega.{arith}
@@ -25,11 +25,11 @@ cast-t7 c = let a = c .before .before .before .before .before .before .args in o
 
 -- src/lib.rt:126:9
 returns : tie.Need-returns
-returns c = let a = c .before .before .before .before .before .before .args in pair-read (a .t .now) (lend [] []) (a .h) (cellsOf (c .before .before .before .before .named .result)) (c .before .before .before .before .named .ensures) (c .before .before .if1 .taken)
+returns c = let a = c .before .before .before .before .before .before .args in pair-read (a .t .now) nothingLent (a .h) (cellsOf (c .before .before .before .before .named .result)) (c .before .before .before .before .named .ensures) (c .before .before .if1 .taken)
 
 -- src/lib.rt:120:1
 returns-2 : tie.Need-returns-2
-returns-2 c = let a = c .before .before .before .before .args in pair-none (a .t .now) (lend [] []) (a .h) (cellsOf (c .before .before .named .result)) (c .before .before .named .ensures) (c .if1 .left)
+returns-2 c = let a = c .before .before .before .before .args in pair-none (a .t .now) nothingLent (a .h) (cellsOf (c .before .before .named .result)) (c .before .before .named .ensures) (c .if1 .left)
 
 pub read-pair-spec : {M : Type 1} → statement M
 read-pair-spec = tie.close (tie.spec named-requires cast-t6 cast-t7 returns returns-2)

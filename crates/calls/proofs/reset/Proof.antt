@@ -1,6 +1,6 @@
 use Rattle.refine.proofs.Validity.{small-of}
 use mathlib.Core.List.{List, []}
-use Rattle.model.specs.Calls.{lend}
+use Rattle.model.specs.Calls.{nothingLent}
 use Rattle.kinds.specs.Values.{cellsOf, changeOf}
 use Rattle.calls.proofs.Laws.{reset-refused, reset-done}
 use native.Mathlib.Omega.{arith}
@@ -31,7 +31,7 @@ same-length c = search needs
 
 -- src/lib.rt:188:9
 returns : tie.Need-returns
-returns c = let a = c .before .before .before .before .before .before .before .args in reset-refused (a .t .now) (lend [] []) (a .h) (cellsOf (c .before .before .before .before .named .result)) (c .before .before .before .before .named .ensures) (changeOf (c .before .before .switch .result)) (c .before .before .switch .ensures) (c .if1 .taken)
+returns c = let a = c .before .before .before .before .before .before .before .args in reset-refused (a .t .now) nothingLent (a .h) (cellsOf (c .before .before .before .before .named .result)) (c .before .before .before .before .named .ensures) (changeOf (c .before .before .switch .result)) (c .before .before .switch .ensures) (c .if1 .taken)
 
 -- src/lib.rt:194:5
 store-requires : tie.Need-store-requires
@@ -43,7 +43,7 @@ same-length-2 c = search needs
 
 -- src/lib.rt:180:1
 returns-2 : tie.Need-returns-2
-returns-2 c = let a = c .before .before .before .before .before .before .before .before .before .before .before .args in rw (c .before .before .store .ensures) (reset-done (a .t .now) (lend [] []) (a .h) (cellsOf (c .before .before .before .before .before .before .before .before .named .result)) (c .before .before .before .before .before .before .before .before .named .ensures) (changeOf (c .before .before .before .before .before .before .switch .result)) (c .before .before .before .before .before .before .switch .ensures) (c .before .before .before .before .if1 .left))
+returns-2 c = let a = c .before .before .before .before .before .before .before .before .before .before .before .args in rw (c .before .before .store .ensures) (reset-done (a .t .now) nothingLent (a .h) (cellsOf (c .before .before .before .before .before .before .before .before .named .result)) (c .before .before .before .before .before .before .before .before .named .ensures) (changeOf (c .before .before .before .before .before .before .switch .result)) (c .before .before .before .before .before .before .switch .ensures) (c .before .before .before .before .if1 .left))
 
 pub reset-spec : {M : Type 1} → statement M
 reset-spec =

@@ -1,5 +1,5 @@
 use mathlib.Core.List.{[]}
-use Rattle.model.specs.Calls.{lend}
+use Rattle.model.specs.Calls.{nothingLent}
 use Rattle.ntsync.proofs.Laws.{found-length, guarded-out, guarded-in}
 use native.Mathlib.Omega.{arith}
 use borrow.Author.Needs.{needs}
@@ -20,7 +20,7 @@ same-length c = search needs
 
 -- src/lib.rt:73:9
 returns : tie.Need-returns
-returns c = let a = c .before .before .before .before .args in guarded-out (a .tables .now) (c .before .valid .ensures) (lend [] []) _ (c .if1 .taken)
+returns c = let a = c .before .before .before .before .args in guarded-out (a .tables .now) (c .before .valid .ensures) nothingLent _ (c .if1 .taken)
 
 -- src/lib.rt:78:5
 create-requires : tie.Need-create-requires
@@ -32,7 +32,7 @@ same-length-2 c = search needs
 
 -- src/lib.rt:67:1
 returns-2 : tie.Need-returns-2
-returns-2 c = let a = c .before .before .before .before .before .before .before .before .before .args in guarded-in (a .tables .now) (c .before .before .before .before .before .before .valid .ensures) (lend [] []) (c .before .before .before .before .before .if1 .left) (c .before .before .create .ensures)
+returns-2 c = let a = c .before .before .before .before .before .before .before .before .before .args in guarded-in (a .tables .now) (c .before .before .before .before .before .before .valid .ensures) nothingLent (c .before .before .before .before .before .if1 .left) (c .before .before .create .ensures)
 
 pub place-spec : {M : Type 1} → statement M
 place-spec =

@@ -1,5 +1,5 @@
 use mathlib.Core.List.{[]}
-use Rattle.model.specs.Calls.{signal, setEvent, asks}
+use Rattle.model.specs.Calls.{signal, setEvent, wakeLent, asks}
 use Rattle.ntsync.proofs.Laws.{front-room, handed-is}
 use native.Mathlib.Omega.{arith}
 use borrow.Author.Needs.{needs}
@@ -28,7 +28,7 @@ cast-t12 c = search needs
 
 -- src/lib.rt:460:5
 front-requires : tie.Need-front-requires
-front-requires c κs = let a = c .before .before .before .before .before .before .before .before .before .before .before .before .before .args in front-room (a .tables .now) (asks (signal setEvent (a .handle)) (a .wake .now) []) (c .before .before .before .before .before .before .before .before .set .ensures)
+front-requires c κs = let a = c .before .before .before .before .before .before .before .before .before .before .before .before .before .args in front-room (a .tables .now) (asks (signal setEvent (a .handle)) (wakeLent (a .wake .now))) (c .before .before .before .before .before .before .before .before .set .ensures)
 
 -- src/lib.rt:450:1
 same-length : tie.Need-same-length
@@ -36,7 +36,7 @@ same-length c = search needs
 
 -- src/lib.rt:450:1
 returns : tie.Need-returns
-returns c = let a = c .before .before .before .before .before .before .before .before .before .before .before .before .before .before .args in (handed-is (a .tables .now) (asks (signal setEvent (a .handle)) (a .wake .now) []) (c .before .before .before .before .before .before .before .before .before .set .ensures) (c .front .ensures .0), c .front .ensures .1)
+returns c = let a = c .before .before .before .before .before .before .before .before .before .before .before .before .before .before .args in (handed-is (a .tables .now) (asks (signal setEvent (a .handle)) (wakeLent (a .wake .now))) (c .before .before .before .before .before .before .before .before .before .set .ensures) (c .front .ensures .0), c .front .ensures .1)
 
 pub set-woken-spec : {M : Type 1} → statement M
 set-woken-spec =

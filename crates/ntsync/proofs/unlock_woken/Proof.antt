@@ -1,5 +1,5 @@
 use mathlib.Core.List.{[]}
-use Rattle.model.specs.Calls.{signal, unlock, asks}
+use Rattle.model.specs.Calls.{signal, unlock, wakeLent, asks}
 use Rattle.ntsync.proofs.Laws.{front-room, handed-is}
 use native.Mathlib.Omega.{arith}
 use borrow.Author.Needs.{needs}
@@ -28,7 +28,7 @@ cast-t13 c = search needs
 
 -- src/lib.rt:433:5
 front-requires : tie.Need-front-requires
-front-requires c κs = let a = c .before .before .before .before .before .before .before .before .before .before .before .before .before .args in front-room (a .tables .now) (asks (signal (unlock (a .owner)) (a .handle)) (a .wake .now) []) (c .before .before .before .before .before .before .before .before .unlock .ensures)
+front-requires c κs = let a = c .before .before .before .before .before .before .before .before .before .before .before .before .before .args in front-room (a .tables .now) (asks (signal (unlock (a .owner)) (a .handle)) (wakeLent (a .wake .now))) (c .before .before .before .before .before .before .before .before .unlock .ensures)
 
 -- src/lib.rt:422:1
 same-length : tie.Need-same-length
@@ -36,7 +36,7 @@ same-length c = search needs
 
 -- src/lib.rt:422:1
 returns : tie.Need-returns
-returns c = let a = c .before .before .before .before .before .before .before .before .before .before .before .before .before .before .args in (handed-is (a .tables .now) (asks (signal (unlock (a .owner)) (a .handle)) (a .wake .now) []) (c .before .before .before .before .before .before .before .before .before .unlock .ensures) (c .front .ensures .0), c .front .ensures .1)
+returns c = let a = c .before .before .before .before .before .before .before .before .before .before .before .before .before .before .args in (handed-is (a .tables .now) (asks (signal (unlock (a .owner)) (a .handle)) (wakeLent (a .wake .now))) (c .before .before .before .before .before .before .before .before .before .unlock .ensures) (c .front .ensures .0), c .front .ensures .1)
 
 pub unlock-woken-spec : {M : Type 1} → statement M
 unlock-woken-spec =

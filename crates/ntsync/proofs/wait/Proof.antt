@@ -1,5 +1,5 @@
 use mathlib.Core.List.{[]}
-use Rattle.model.specs.Calls.{lend}
+use Rattle.model.specs.Calls.{nothingLent}
 use Rattle.waits.specs.Values.{waitedBy}
 use Rattle.ntsync.proofs.Laws.{found-length, guarded-out, guarded-in, index-small}
 use native.Mathlib.Omega.{arith}
@@ -21,7 +21,7 @@ same-length c = search needs
 
 -- src/lib.rt:240:9
 returns : tie.Need-returns
-returns c = let a = c .before .before .before .before .before .args in guarded-out (a .tables .now) (c .before .valid .ensures) (lend [] []) _ (c .if1 .taken)
+returns c = let a = c .before .before .before .before .before .args in guarded-out (a .tables .now) (c .before .valid .ensures) nothingLent _ (c .if1 .taken)
 
 -- src/lib.rt:246:9
 wait-requires : tie.Need-wait-requires
@@ -37,7 +37,7 @@ same-length-2 c = search needs
 
 -- src/lib.rt:224:1
 returns-2 : tie.Need-returns-2
-returns-2 c = let a = c .before .before .before .before .before .before .before .before .before .before .args in guarded-in (a .tables .now) (c .before .before .before .before .before .before .valid .ensures) (lend [] []) (c .before .before .before .before .before .if1 .left) (c .before .before .before .wait .ensures)
+returns-2 c = let a = c .before .before .before .before .before .before .before .before .before .before .args in guarded-in (a .tables .now) (c .before .before .before .before .before .before .valid .ensures) nothingLent (c .before .before .before .before .before .if1 .left) (c .before .before .before .wait .ensures)
 
 pub wait-spec : {M : Type 1} → statement M
 wait-spec =

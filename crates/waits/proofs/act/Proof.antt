@@ -1,7 +1,7 @@
 use Rattle.attempt.specs.Values.{triedBy}
 use mathlib.Core.Path.{_≡_, refl, sym, _∙_}
 use mathlib.Core.List.{List, []}
-use Rattle.model.specs.Calls.{lend}
+use Rattle.model.specs.Calls.{nothingLent}
 use Rattle.waits.proofs.Laws.{act-served, act-later}
 use native.Mathlib.Omega.{arith}
 use borrow.Author.Needs.{needs}
@@ -19,7 +19,7 @@ same-length : tie.Need-same-length
 same-length c = search needs
 
 returns : tie.Need-returns
-returns c = let a = c .before .before .before .before .before .before .before .args in act-served (a .t .now) (a .mode) (a .list .now) (a .asking) (a .flags) (a .alert) (a .timeout) (a .time) (lend [] []) _ (c .before .before .before .try-list .ensures) (c .if1 .taken)
+returns c = let a = c .before .before .before .before .before .before .before .args in act-served (a .t .now) (a .mode) (a .list .now) (a .asking) (a .flags) (a .alert) (a .timeout) (a .time) nothingLent _ (c .before .before .before .try-list .ensures) (c .if1 .taken)
 
 later-requires : tie.Need-later-requires
 later-requires c κs = search needs
@@ -28,7 +28,7 @@ same-length-2 : tie.Need-same-length-2
 same-length-2 c = search needs
 
 returns-2 : tie.Need-returns-2
-returns-2 c = let a = c .before .before .before .before .before .before .before .before .before .before .before .args in act-later (a .t .now) (a .mode) (a .list .now) (a .asking) (a .flags) (a .alert) (a .timeout) (a .time) (lend [] []) _ (c .before .before .before .before .before .before .before .try-list .ensures) (c .before .before .before .before .if1 .left) _ (c .before .before .later .ensures)
+returns-2 c = let a = c .before .before .before .before .before .before .before .before .before .before .before .args in act-later (a .t .now) (a .mode) (a .list .now) (a .asking) (a .flags) (a .alert) (a .timeout) (a .time) nothingLent _ (c .before .before .before .before .before .before .before .try-list .ensures) (c .before .before .before .before .if1 .left) _ (c .before .before .later .ensures)
 
 pub act-spec : {M : Type 1} → statement M
 act-spec =

@@ -1,0 +1,110 @@
+-- Readings on tables: what a host sees (`seen`) and is handed (`handed`) of `tableStep` itself, computed on cells that are
+-- written out here. So `records`, `overwrite`, `least`, `encode` and `view` are computed where no other side shares them.
+use mathlib.Core.Path.{_≡_, refl}
+use mathlib.Core.List.{List, [], _∷_, _++_}
+use Prim.Native.Nat.{ℕ, _+_, _-_, _*_}
+use lib.ListN.{length, replicate}
+use Rattle.model.specs.Sizes.{objectPlaces, waitPlaces, never, ticketsEnd, wakeLength}
+use Rattle.model.specs.Basics.{anyOf, allOf, member, hasRepeat, tabulate, joined}
+use Rattle.model.specs.Waits.{any, lowestSignaled, allSignaled, look, attempt, acquireEach, anyAbandoned, dequeue}
+use Rattle.model.specs.Waits.{oldest, concernedBy, serve, tryToServe, walkQueue}
+use Rattle.model.specs.Calls.{aSemaphore, anEvent, setEvent, create, resetEvent, signal, wait, expire}
+use Rattle.model.specs.Calls.{nothingLent, wakeLent, asks, least, lowestEmpty, allOccupied, waitsFull, enqueue}
+use Rattle.model.specs.Calls.{refusals, admits, endEach, change}
+use Rattle.model.specs.Snapshot.{ascii, digitsUpTo, line, objectText, objectsText, objectCount, waitText}
+use Rattle.model.specs.Snapshot.{queueFrom, snapshotText}
+use Rattle.model.specs.Layout.{objectSize, waitSize, objectCells, waitCells, encode, view, distinctTickets}
+use Rattle.model.specs.Layout.{sameCells, validTables}
+use Rattle.model.specs.Steps.{firstRefusal, records, libraryStep, tableStep, Seen, sees, seen, hands, handed}
+
+-- the cells of the next ticket, of the first objects and of the first waits; each place is filled up with zeros, and all
+-- further places are empty
+abbrev padded : ℕ → List (List ℕ) → List ℕ
+padded size [] = []
+padded size (cells ∷ places) = (cells ++ replicate (size - length cells) 0) ++ padded size places
+
+abbrev tables : ℕ → List (List ℕ) → List (List ℕ) → List ℕ
+tables next objects waits = next ∷ ((padded objectSize objects ++ replicate (objectSize * (objectPlaces - length objects)) 0)
+    ++ (padded waitSize waits ++ replicate (waitSize * (waitPlaces - length waits)) 0))
+
+-- P1's tables: semaphore 1 of 2, unset manual event, ticket 1 waits for all of both, owner 7
+abbrev p1 : List ℕ
+p1 = tables 2 ((1 ∷ 1 ∷ 0 ∷ 2 ∷ []) ∷ (3 ∷ 0 ∷ 0 ∷ 1 ∷ []) ∷ []) ((1 ∷ 1 ∷ 7 ∷ 0 ∷ never ∷ 2 ∷ 0 ∷ 1 ∷ 2 ∷ []) ∷ [])
+
+abbrev p2 : List ℕ
+p2 = tables 2 ((1 ∷ 0 ∷ 0 ∷ 2 ∷ []) ∷ (3 ∷ 1 ∷ 0 ∷ 1 ∷ []) ∷ []) []
+
+-- an unset auto event, two waits for any of it: ticket 5 in place 0 until 50, ticket 3 in place 1 until 40
+abbrev timed : List ℕ
+timed = tables 6 ((3 ∷ 0 ∷ 0 ∷ 0 ∷ []) ∷ []) ((5 ∷ 0 ∷ 8 ∷ 0 ∷ 50 ∷ 1 ∷ 0 ∷ 1 ∷ []) ∷ (3 ∷ 0 ∷ 9 ∷ 0 ∷ 40 ∷ 1 ∷ 0 ∷ 1 ∷ []) ∷ [])
+
+-- a mutex that 5 holds, and a set auto event; owner 6 waits for any of the mutex, on the real-time clock, alert 2 cleared
+abbrev held : List ℕ
+held = tables 4 ((2 ∷ 3 ∷ 5 ∷ 0 ∷ []) ∷ (3 ∷ 0 ∷ 0 ∷ 0 ∷ []) ∷ []) ((3 ∷ 0 ∷ 6 ∷ 1 ∷ 90 ∷ 1 ∷ 2 ∷ 1 ∷ []) ∷ [])
+
+abbrev heldText : List ℕ
+heldText = ascii "next=4\nobjects=2\nhandle=1\nkind=mutex\nowner=5\ncount=3\nabandoned=0\nhandle=2\nkind=event\nsignaled=0\nmanual=0\nwaits=1\nwait=3\nmode=any\nowner=6\nclock=real\ntimeout=90\nalert=2\nn=1\nobj=1\n"
+
+-- every object place an event; tickets spent; a semaphore of 2 of 1
+abbrev full : List ℕ
+full = tables 1 (tabulate objectPlaces (λ p. 3 ∷ [])) []
+
+abbrev spent : List ℕ
+spent = tables ticketsEnd ((3 ∷ []) ∷ []) []
+
+abbrev damaged : List ℕ
+damaged = tables 1 ((1 ∷ 2 ∷ 0 ∷ 1 ∷ []) ∷ []) []
+
+abbrev sevens : ℕ → List ℕ
+sevens n = replicate n 7
+
+pub reading-p2 : seen (tableStep p1 (asks (signal setEvent 2) (wakeLent (sevens wakeLength))))
+    ≡ sees (0 ∷ 0 ∷ 0 ∷ 1 ∷ []) (wakeLent (1 ∷ 0 ∷ 0 ∷ sevens (wakeLength - 3))) p2
+unfolding tableStep validTables sameCells view encode tabulate joined objectCells waitCells allOf oldest distinctTickets lowestSignaled allSignaled look attempt acquireEach anyAbandoned dequeue serve tryToServe member concernedBy walkQueue libraryStep firstRefusal records refusals change least lowestEmpty waitsFull enqueue allOccupied hasRepeat anyOf admits endEach
+reading-p2 = refl
+
+pub reading-expire : seen (tableStep timed (asks (expire 0 50) (wakeLent (sevens (wakeLength + 1)))))
+    ≡ sees (0 ∷ 0 ∷ 0 ∷ 2 ∷ []) (wakeLent (3 ∷ 5 ∷ 0 ∷ 5 ∷ 5 ∷ 0 ∷ sevens (wakeLength - 5))) (tables 6 ((3 ∷ []) ∷ []) [])
+unfolding tableStep validTables sameCells view encode tabulate joined objectCells waitCells allOf oldest distinctTickets lowestSignaled allSignaled look attempt acquireEach anyAbandoned dequeue serve tryToServe member concernedBy walkQueue libraryStep firstRefusal records refusals change least lowestEmpty waitsFull enqueue allOccupied hasRepeat anyOf admits endEach
+reading-expire = refl
+
+pub reading-full : seen (tableStep full (asks (create aSemaphore 0 1) nothingLent))
+    ≡ sees (7 ∷ 0 ∷ 0 ∷ 0 ∷ []) nothingLent full
+unfolding tableStep validTables sameCells view encode tabulate joined objectCells waitCells allOf oldest distinctTickets lowestSignaled allSignaled look attempt acquireEach anyAbandoned dequeue serve tryToServe member concernedBy walkQueue libraryStep firstRefusal records refusals change least lowestEmpty waitsFull enqueue allOccupied hasRepeat anyOf admits endEach
+reading-full = refl
+
+pub reading-spent : seen (tableStep spent (asks (wait any (1 ∷ []) 7 0 0 0 never 0) nothingLent))
+    ≡ sees (8 ∷ 0 ∷ 0 ∷ 0 ∷ []) nothingLent spent
+unfolding tableStep validTables sameCells view encode tabulate joined objectCells waitCells allOf oldest distinctTickets lowestSignaled allSignaled look attempt acquireEach anyAbandoned dequeue serve tryToServe member concernedBy walkQueue libraryStep firstRefusal records refusals change least lowestEmpty waitsFull enqueue allOccupied hasRepeat anyOf admits endEach
+reading-spent = refl
+
+pub reading-damaged : seen (tableStep damaged (asks (signal setEvent 2) (wakeLent (sevens wakeLength))))
+    ≡ sees (9 ∷ 0 ∷ 0 ∷ 0 ∷ []) (wakeLent (sevens wakeLength)) damaged
+unfolding tableStep validTables sameCells view encode tabulate joined objectCells waitCells allOf oldest distinctTickets lowestSignaled allSignaled look attempt acquireEach anyAbandoned dequeue serve tryToServe member concernedBy walkQueue libraryStep firstRefusal records refusals change least lowestEmpty waitsFull enqueue allOccupied hasRepeat anyOf admits endEach
+reading-damaged = refl
+
+pub reading-short : seen (tableStep timed (asks (expire 0 50) (wakeLent (sevens (wakeLength - 1)))))
+    ≡ sees (12 ∷ 0 ∷ 0 ∷ 0 ∷ []) (wakeLent (sevens (wakeLength - 1))) timed
+unfolding tableStep validTables sameCells view encode tabulate joined objectCells waitCells allOf oldest distinctTickets lowestSignaled allSignaled look attempt acquireEach anyAbandoned dequeue serve tryToServe member concernedBy walkQueue libraryStep firstRefusal records refusals change least lowestEmpty waitsFull enqueue allOccupied hasRepeat anyOf admits endEach
+reading-short = refl
+
+pub reading-reset : seen (tableStep p2 (asks (resetEvent 2) nothingLent))
+    ≡ sees (0 ∷ 1 ∷ 0 ∷ 0 ∷ []) nothingLent (tables 2 ((1 ∷ 0 ∷ 0 ∷ 2 ∷ []) ∷ (3 ∷ 0 ∷ 0 ∷ 1 ∷ []) ∷ []) [])
+unfolding tableStep validTables sameCells view encode tabulate joined objectCells waitCells allOf oldest distinctTickets lowestSignaled allSignaled look attempt acquireEach anyAbandoned dequeue serve tryToServe member concernedBy walkQueue libraryStep firstRefusal records refusals change least lowestEmpty waitsFull enqueue allOccupied hasRepeat anyOf admits endEach
+reading-reset = refl
+
+pub reading-flags : seen (tableStep p2 (asks (create anEvent 2 5) nothingLent))
+    ≡ sees (0 ∷ 3 ∷ 0 ∷ 0 ∷ []) nothingLent (tables 2 ((1 ∷ 0 ∷ 0 ∷ 2 ∷ []) ∷ (3 ∷ 1 ∷ 0 ∷ 1 ∷ []) ∷ (3 ∷ 1 ∷ 0 ∷ 1 ∷ []) ∷ []) [])
+unfolding tableStep validTables sameCells view encode tabulate joined objectCells waitCells allOf oldest distinctTickets lowestSignaled allSignaled look attempt acquireEach anyAbandoned dequeue serve tryToServe member concernedBy walkQueue libraryStep firstRefusal records refusals change least lowestEmpty waitsFull enqueue allOccupied hasRepeat anyOf admits endEach
+reading-flags = refl
+
+-- the front that is handed out, filled and after a refusal
+pub handed-readings : handed (tableStep timed (asks (expire 0 50) (wakeLent (sevens wakeLength)))) ∷ handed (tableStep timed (asks (expire 2 50) (wakeLent (sevens wakeLength)))) ∷ []
+    ≡ hands (0 ∷ 0 ∷ 2 ∷ []) (3 ∷ 5 ∷ 0 ∷ 5 ∷ 5 ∷ 0 ∷ []) (tables 6 ((3 ∷ []) ∷ []) []) ∷ hands (1 ∷ 0 ∷ 0 ∷ []) [] timed ∷ []
+unfolding tableStep validTables sameCells view encode tabulate joined objectCells waitCells allOf oldest distinctTickets lowestSignaled allSignaled look attempt acquireEach anyAbandoned dequeue serve tryToServe member concernedBy walkQueue libraryStep firstRefusal records refusals change least lowestEmpty waitsFull enqueue allOccupied hasRepeat anyOf admits endEach
+handed-readings = refl
+
+-- a text with a mutex, mode any and the real-time clock, of the state that the tables show
+pub text-reading : snapshotText (view held) ≡ heldText
+unfolding view tabulate joined oldest snapshotText objectText objectsText objectCount waitText queueFrom line digitsUpTo
+text-reading = refl
