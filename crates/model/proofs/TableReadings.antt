@@ -8,7 +8,7 @@ use Rattle.model.specs.Sizes.{objectPlaces, waitPlaces, never, ticketsEn
 use Rattle.model.specs.Basics.{anyOf, allOf, member, hasRepeat, tabulate, joined}
 use Rattle.model.specs.Waits.{any, lowestSignaled, allSignaled, look, attempt, acquireEach, anyAbandoned, dequeue}
 use Rattle.model.specs.Waits.{oldest, concernedBy, serve, tryToServe, walkQueue}
-use Rattle.model.specs.Calls.{aSemaphore, anEvent, setEvent, create, resetEvent, signal, wait, expire}
+use Rattle.model.specs.Calls.{aSemaphore, anEvent, setEvent, unlock, create, resetEvent, signal, wait, expire}
 use Rattle.model.specs.Calls.{nothingLent, wakeLent, asks, least, lowestEmpty, allOccupied, waitsFull, enqueue}
 use Rattle.model.specs.Calls.{refusals, admits, endEach, change}
 use Rattle.model.specs.Snapshot.{ascii, digitsUpTo, line, objectText, objectsText, objectCount, waitText}
@@ -38,9 +38,13 @@ p2 = tables 2 ((1 ∷ 0 ∷ 0 ∷ 2 ∷ []) ∷ (3 ∷ 1 ∷ 0 ∷ 1 ∷ []) ∷
 abbrev timed : List ℕ
 timed = tables 6 ((3 ∷ 0 ∷ 0 ∷ 0 ∷ []) ∷ []) ((5 ∷ 0 ∷ 8 ∷ 0 ∷ 50 ∷ 1 ∷ 0 ∷ 1 ∷ []) ∷ (3 ∷ 0 ∷ 9 ∷ 0 ∷ 40 ∷ 1 ∷ 0 ∷ 1 ∷ []) ∷ [])
 
--- a mutex that 5 holds, and a set auto event; owner 6 waits for any of the mutex, on the real-time clock, alert 2 cleared
+-- a mutex that 5 holds so many times, and an unset auto event; ticket 3 waits for any of the mutex, owner 6, on the real-time
+-- clock, with the event as its alert
+abbrev heldBy5 : ℕ → List ℕ
+heldBy5 count = tables 4 ((2 ∷ count ∷ 5 ∷ 0 ∷ []) ∷ (3 ∷ []) ∷ []) ((3 ∷ 0 ∷ 6 ∷ 1 ∷ 90 ∷ 1 ∷ 2 ∷ 1 ∷ []) ∷ [])
+
 abbrev held : List ℕ
-held = tables 4 ((2 ∷ 3 ∷ 5 ∷ 0 ∷ []) ∷ (3 ∷ 0 ∷ 0 ∷ 0 ∷ []) ∷ []) ((3 ∷ 0 ∷ 6 ∷ 1 ∷ 90 ∷ 1 ∷ 2 ∷ 1 ∷ []) ∷ [])
+held = heldBy5 3
 
 abbrev heldText : List ℕ
 heldText = ascii "next=4\nobjects=2\nhandle=1\nkind=mutex\nowner=5\ncount=3\nabandoned=0\nhandle=2\nkind=event\nsignaled=0\nmanual=0\nwaits=1\nwait=3\nmode=any\nowner=6\nclock=real\ntimeout=90\nalert=2\nn=1\nobj=1\n"
@@ -58,51 +62,34 @@ damaged = tables 1 ((1 ∷ 2 ∷ 0 ∷ 1 ∷ []) ∷ []) []
 abbrev sevens : ℕ → List ℕ
 sevens n = replicate n 7
 
-pub reading-p2 : seen (tableStep p1 (asks (signal setEvent 2) (wakeLent (sevens wakeLength))))
-    ≡ sees (0 ∷ 0 ∷ 0 ∷ 1 ∷ []) (wakeLent (1 ∷ 0 ∷ 0 ∷ sevens (wakeLength - 3))) p2
+pub table-readings :
+    -- P2
+    (seen (tableStep p1 (asks (signal setEvent 2) (wakeLent (sevens wakeLength))))
+    ≡ sees (0 ∷ 0 ∷ 0 ∷ 1 ∷ []) (wakeLent (1 ∷ 0 ∷ 0 ∷ sevens (wakeLength - 3))) p2)
+    -- the records by ticket, from the front; the rest is unaltered; the front that is handed out, and none after a refusal
+    × (seen (tableStep timed (asks (expire 0 50) (wakeLent (sevens (wakeLength + 1)))))
+    ≡ sees (0 ∷ 0 ∷ 0 ∷ 2 ∷ []) (wakeLent (3 ∷ 5 ∷ 0 ∷ 5 ∷ 5 ∷ 0 ∷ sevens (wakeLength - 5))) (tables 6 ((3 ∷ []) ∷ []) []))
+    × (handed (tableStep timed (asks (expire 0 50) (wakeLent (sevens wakeLength))))
+    ≡ hands (0 ∷ 0 ∷ 2 ∷ []) (3 ∷ 5 ∷ 0 ∷ 5 ∷ 5 ∷ 0 ∷ []) (tables 6 ((3 ∷ []) ∷ []) []))
+    × (handed (tableStep timed (asks (expire 2 50) (wakeLent (sevens wakeLength)))) ≡ hands (1 ∷ 0 ∷ 0 ∷ []) [] timed)
+    -- one answer each of 7, 8, 9 and 12
+    × (seen (tableStep full (asks (create aSemaphore 0 1) nothingLent)) ≡ sees (7 ∷ 0 ∷ 0 ∷ 0 ∷ []) nothingLent full)
+    × (seen (tableStep spent (asks (wait any (1 ∷ []) 7 0 0 0 never 0) nothingLent))
+    ≡ sees (8 ∷ 0 ∷ 0 ∷ 0 ∷ []) nothingLent spent)
+    × (seen (tableStep damaged (asks (signal setEvent 2) (wakeLent (sevens wakeLength))))
+    ≡ sees (9 ∷ 0 ∷ 0 ∷ 0 ∷ []) (wakeLent (sevens wakeLength)) damaged)
+    × (seen (tableStep timed (asks (expire 0 50) (wakeLent (sevens (wakeLength - 1)))))
+    ≡ sees (12 ∷ 0 ∷ 0 ∷ 0 ∷ []) (wakeLent (sevens (wakeLength - 1))) timed)
+    -- an unlock above zero, a reset, flags above 1
+    × (seen (tableStep held (asks (signal (unlock 5) 1) (wakeLent (sevens wakeLength))))
+    ≡ sees (0 ∷ 3 ∷ 0 ∷ 0 ∷ []) (wakeLent (sevens wakeLength)) (heldBy5 2))
+    × (seen (tableStep p2 (asks (resetEvent 2) nothingLent))
+    ≡ sees (0 ∷ 1 ∷ 0 ∷ 0 ∷ []) nothingLent (tables 2 ((1 ∷ 0 ∷ 0 ∷ 2 ∷ []) ∷ (3 ∷ 0 ∷ 0 ∷ 1 ∷ []) ∷ []) []))
+    × (seen (tableStep p2 (asks (create anEvent 2 5) nothingLent))
+    ≡ sees (0 ∷ 3 ∷ 0 ∷ 0 ∷ []) nothingLent
+    (tables 2 ((1 ∷ 0 ∷ 0 ∷ 2 ∷ []) ∷ (3 ∷ 1 ∷ 0 ∷ 1 ∷ []) ∷ (3 ∷ 1 ∷ 0 ∷ 1 ∷ []) ∷ []) []))
 unfolding tableStep validTables sameCells view encode tabulate joined objectCells waitCells allOf oldest distinctTickets lowestSignaled allSignaled look attempt acquireEach anyAbandoned dequeue serve tryToServe member concernedBy walkQueue libraryStep firstRefusal records refusals change least lowestEmpty waitsFull enqueue allOccupied hasRepeat anyOf admits endEach
-reading-p2 = refl
-
-pub reading-expire : seen (tableStep timed (asks (expire 0 50) (wakeLent (sevens (wakeLength + 1)))))
-    ≡ sees (0 ∷ 0 ∷ 0 ∷ 2 ∷ []) (wakeLent (3 ∷ 5 ∷ 0 ∷ 5 ∷ 5 ∷ 0 ∷ sevens (wakeLength - 5))) (tables 6 ((3 ∷ []) ∷ []) [])
-unfolding tableStep validTables sameCells view encode tabulate joined objectCells waitCells allOf oldest distinctTickets lowestSignaled allSignaled look attempt acquireEach anyAbandoned dequeue serve tryToServe member concernedBy walkQueue libraryStep firstRefusal records refusals change least lowestEmpty waitsFull enqueue allOccupied hasRepeat anyOf admits endEach
-reading-expire = refl
-
-pub reading-full : seen (tableStep full (asks (create aSemaphore 0 1) nothingLent))
-    ≡ sees (7 ∷ 0 ∷ 0 ∷ 0 ∷ []) nothingLent full
-unfolding tableStep validTables sameCells view encode tabulate joined objectCells waitCells allOf oldest distinctTickets lowestSignaled allSignaled look attempt acquireEach anyAbandoned dequeue serve tryToServe member concernedBy walkQueue libraryStep firstRefusal records refusals change least lowestEmpty waitsFull enqueue allOccupied hasRepeat anyOf admits endEach
-reading-full = refl
-
-pub reading-spent : seen (tableStep spent (asks (wait any (1 ∷ []) 7 0 0 0 never 0) nothingLent))
-    ≡ sees (8 ∷ 0 ∷ 0 ∷ 0 ∷ []) nothingLent spent
-unfolding tableStep validTables sameCells view encode tabulate joined objectCells waitCells allOf oldest distinctTickets lowestSignaled allSignaled look attempt acquireEach anyAbandoned dequeue serve tryToServe member concernedBy walkQueue libraryStep firstRefusal records refusals change least lowestEmpty waitsFull enqueue allOccupied hasRepeat anyOf admits endEach
-reading-spent = refl
-
-pub reading-damaged : seen (tableStep damaged (asks (signal setEvent 2) (wakeLent (sevens wakeLength))))
-    ≡ sees (9 ∷ 0 ∷ 0 ∷ 0 ∷ []) (wakeLent (sevens wakeLength)) damaged
-unfolding tableStep validTables sameCells view encode tabulate joined objectCells waitCells allOf oldest distinctTickets lowestSignaled allSignaled look attempt acquireEach anyAbandoned dequeue serve tryToServe member concernedBy walkQueue libraryStep firstRefusal records refusals change least lowestEmpty waitsFull enqueue allOccupied hasRepeat anyOf admits endEach
-reading-damaged = refl
-
-pub reading-short : seen (tableStep timed (asks (expire 0 50) (wakeLent (sevens (wakeLength - 1)))))
-    ≡ sees (12 ∷ 0 ∷ 0 ∷ 0 ∷ []) (wakeLent (sevens (wakeLength - 1))) timed
-unfolding tableStep validTables sameCells view encode tabulate joined objectCells waitCells allOf oldest distinctTickets lowestSignaled allSignaled look attempt acquireEach anyAbandoned dequeue serve tryToServe member concernedBy walkQueue libraryStep firstRefusal records refusals change least lowestEmpty waitsFull enqueue allOccupied hasRepeat anyOf admits endEach
-reading-short = refl
-
-pub reading-reset : seen (tableStep p2 (asks (resetEvent 2) nothingLent))
-    ≡ sees (0 ∷ 1 ∷ 0 ∷ 0 ∷ []) nothingLent (tables 2 ((1 ∷ 0 ∷ 0 ∷ 2 ∷ []) ∷ (3 ∷ 0 ∷ 0 ∷ 1 ∷ []) ∷ []) [])
-unfolding tableStep validTables sameCells view encode tabulate joined objectCells waitCells allOf oldest distinctTickets lowestSignaled allSignaled look attempt acquireEach anyAbandoned dequeue serve tryToServe member concernedBy walkQueue libraryStep firstRefusal records refusals change least lowestEmpty waitsFull enqueue allOccupied hasRepeat anyOf admits endEach
-reading-reset = refl
-
-pub reading-flags : seen (tableStep p2 (asks (create anEvent 2 5) nothingLent))
-    ≡ sees (0 ∷ 3 ∷ 0 ∷ 0 ∷ []) nothingLent (tables 2 ((1 ∷ 0 ∷ 0 ∷ 2 ∷ []) ∷ (3 ∷ 1 ∷ 0 ∷ 1 ∷ []) ∷ (3 ∷ 1 ∷ 0 ∷ 1 ∷ []) ∷ []) [])
-unfolding tableStep validTables sameCells view encode tabulate joined objectCells waitCells allOf oldest distinctTickets lowestSignaled allSignaled look attempt acquireEach anyAbandoned dequeue serve tryToServe member concernedBy walkQueue libraryStep firstRefusal records refusals change least lowestEmpty waitsFull enqueue allOccupied hasRepeat anyOf admits endEach
-reading-flags = refl
-
--- the front that is handed out, filled and after a refusal
-pub handed-readings : handed (tableStep timed (asks (expire 0 50) (wakeLent (sevens wakeLength)))) ∷ handed (tableStep timed (asks (expire 2 50) (wakeLent (sevens wakeLength)))) ∷ []
-    ≡ hands (0 ∷ 0 ∷ 2 ∷ []) (3 ∷ 5 ∷ 0 ∷ 5 ∷ 5 ∷ 0 ∷ []) (tables 6 ((3 ∷ []) ∷ []) []) ∷ hands (1 ∷ 0 ∷ 0 ∷ []) [] timed ∷ []
-unfolding tableStep validTables sameCells view encode tabulate joined objectCells waitCells allOf oldest distinctTickets lowestSignaled allSignaled look attempt acquireEach anyAbandoned dequeue serve tryToServe member concernedBy walkQueue libraryStep firstRefusal records refusals change least lowestEmpty waitsFull enqueue allOccupied hasRepeat anyOf admits endEach
-handed-readings = refl
+table-readings = (refl, refl, refl, refl, refl, refl, refl, refl, refl, refl, refl)
 
 -- a text with a mutex, mode any and the real-time clock, of the state that the tables show
 pub text-reading : snapshotText (view held) ≡ heldText
