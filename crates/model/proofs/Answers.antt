@@ -1,26 +1,27 @@
 -- Which answers there are: refusals alter nothing, every other answer is 0, 4, 5, 6 or 11, and 5 and 6 touch no object.
 use mathlib.Core.Path.{_≡_, refl, ap, _∙_}
-use mathlib.Core.Bool.{Bool, true, false, cond}
+use mathlib.Core.Bool.{Bool, true, false, not, _||_, cond}
 use mathlib.Core.List.{List, [], _∷_}
 use mathlib.Core.Option.{some}
 use mathlib.Core.Logic.{inl, inr, _↔_}
 use Prim.Native.Nat.{ℕ, zero, suc, _≤_}
 use native.Mathlib.Omega.{arith}
 use lib.ListN.{length}
-use lib.Dec.{eqb}
-use borrow.Author.Tests.{eqb-true, eqb-false}
-use Rattle.model.specs.Basics.{done, ownerDead, number, member, All}
-use Rattle.model.specs.Calls.{endEach, Kind, aSemaphore, aMutex, anEvent, Signal, post, unlock, kill, setEvent}
+use lib.Dec.{eqb, ltb}
+use borrow.Author.Tests.{ltb-false, le-ltb, eqb-true, eqb-false}
+use Rattle.model.specs.Basics.{done, ownerDead, number, anyOf, member, All}
+use Rattle.model.specs.Calls.{endEach, least, listTooShort, allOccupied, repeats, Kind, aSemaphore, aMutex, anEvent, Signal, post, unlock, kill, setEvent}
 use Rattle.model.specs.Calls.{pulseEvent, Operation, create, close, resetEvent, read, signal, wait, expire}
 use Rattle.model.specs.Calls.{cancel, snapshot, Call, Refusal, Rule, rule, wrongKind, onSemaphore, onMutex}
 use Rattle.model.specs.Calls.{onEvent, readRule, signalRule, timeUp, newWait, refusals, Change, admits, change}
-use Rattle.model.specs.Objects.{Object, empty, semaphore, mutex, event}
+use Rattle.model.specs.Objects.{Object, empty, semaphore, mutex, event, isEvent}
 use Rattle.model.specs.Steps.{unaltered, conditions, firstRefusal, perform, libraryStep}
-use Rattle.model.specs.Notions.{refusalNumbers, FirstIs}
+use Rattle.model.specs.Notions.{refusalNumbers, FirstIs, LongEnough, ofKind, kindFor, wrongObject}
+use Rattle.model.specs.Sizes.{maxListed}
 use Rattle.model.specs.Waits.{Wait, State, withWaits, objectAt, attempt, anyAbandoned, dequeue, oldest, Woken}
 use Rattle.model.specs.Waits.{wakeByWalk}
 use Rattle.model.proofs.Waking.{walk-keeps, walk-nothing}
-use Rattle.model.proofs.Logic.{byBool, byOption, clash, differ}
+use Rattle.model.proofs.Logic.{byBool, byOption, clash, differ, not-true, or-right}
 use Rattle.model.proofs.Rules.{due, perform-case}
 
 -- a property of the rules of one object, whatever it is
@@ -207,6 +208,71 @@ step-spends s c = perform-case wakeByWalk s c (λ o. o .held .next ≡ cond (eqb
   where
     eleven : (n : ℕ) → member n refusalNumbers ≡ true → eqb n 11 ≡ false
     eleven n e = refused-not n 11 refl e
+
+-- A WRONG OBJECT is refused with 1
+wrong-semaphore : (x : Object) (f : ℕ → ℕ → Rule) → ofKind aSemaphore x ≡ false → onSemaphore x f ≡ wrongKind
+wrong-semaphore empty f e = refl
+wrong-semaphore (semaphore c m) f e = clash refl e
+wrong-semaphore (mutex o c a) f e = refl
+wrong-semaphore (event s m) f e = refl
+
+wrong-mutex : (x : Object) (f : ℕ → ℕ → Bool → Rule) → ofKind aMutex x ≡ false → onMutex x f ≡ wrongKind
+wrong-mutex empty f e = refl
+wrong-mutex (semaphore c m) f e = refl
+wrong-mutex (mutex o c a) f e = clash refl e
+wrong-mutex (event s m) f e = refl
+
+wrong-event : (x : Object) (f : Bool → Bool → Rule) → isEvent x ≡ false → onEvent x f ≡ wrongKind
+wrong-event empty f e = refl
+wrong-event (semaphore c m) f e = refl
+wrong-event (mutex o c a) f e = refl
+wrong-event (event s m) f e = clash refl e
+
+wrong-read : (k : Kind) (x : Object) → ofKind k x ≡ false → readRule k x ≡ wrongKind
+wrong-read aSemaphore x e = wrong-semaphore x _ e
+wrong-read aMutex x e = wrong-mutex x _ e
+wrong-read anEvent x e = wrong-event x _ e
+
+wrong-signal : (how : Signal) (x : Object) → ofKind (kindFor how) x ≡ false → signalRule how x ≡ wrongKind
+wrong-signal (post add) x e = wrong-semaphore x _ e
+wrong-signal (unlock o) x e = wrong-mutex x _ e
+wrong-signal (kill o) x e = wrong-mutex x _ e
+wrong-signal setEvent x e = wrong-event x _ e
+wrong-signal pulseEvent x e = wrong-event x _ e
+
+wrong-wait : (a b c d e f g h : Bool) → (c || g) ≡ true → anyOf (a ∷ b ∷ c ∷ d ∷ e ∷ f ∷ g ∷ h ∷ []) ≡ true
+unfolding anyOf
+wrong-wait a b true d e f g h y = or-right a _ (or-right b _ refl)
+wrong-wait a b false d e f true h y = or-right a _ (or-right b _ (or-right d _ (or-right e _ (or-right f _ refl))))
+wrong-wait a b false d e f false h y = clash y refl
+
+wrong-rule : (r : Rule) → r ≡ wrongKind → firstRefusal (r .refusals) ≡ some 1
+unfolding firstRefusal
+wrong-rule r e = ap (λ (x : Rule). firstRefusal (x .refusals)) e
+
+wrong-first : (op : Operation) (s : State) → wrongObject op (s .objects) ≡ true → firstRefusal (refusals op s) ≡ some 1
+unfolding refusals firstRefusal
+wrong-first (create k x y) s e = clash e refl
+wrong-first (close h) s e = rw e
+wrong-first (resetEvent h) s e = wrong-rule _ (wrong-event (objectAt (s .objects) h) _ (not-true _ e))
+wrong-first (read k h) s e = wrong-rule _ (wrong-read k (objectAt (s .objects) h) (not-true _ e))
+wrong-first (signal how h) s e = wrong-rule _ (wrong-signal how (objectAt (s .objects) h) (not-true _ e))
+wrong-first (wait mode hs o f p a t now) s e = rw (wrong-wait (listTooShort mode hs) (ltb maxListed (length hs)) (not (allOccupied (s .objects) hs)) (eqb o 0) (ltb 1 f) (not (eqb p 0)) (not (eqb a 0 || isEvent (objectAt (s .objects) a))) (repeats mode (a ∷ hs)) e)
+wrong-first (expire c t) s e = clash e refl
+wrong-first (cancel t) s e = clash e refl
+wrong-first snapshot s e = clash e refl
+
+-- too short is 12, and a wrong object 1 where nothing is too short
+pub step-short : (s : State) (c : Call) → (LongEnough c → ⊥) → (libraryStep s c) .answer ≡ 12
+unfolding libraryStep firstRefusal
+step-short s c n = let e : (ltb (length (c .lent .wake)) ((least (c .operation)) .0) || ltb (length (c .lent .buffer)) ((least (c .operation)) .1)) ≡ true =
+    byBool (ltb (length (c .lent .wake)) ((least (c .operation)) .0)) (λ y. rw y)
+    (λ a. byBool (ltb (length (c .lent .buffer)) ((least (c .operation)) .1)) (λ y. rw (a, y)) (λ b. absurd (n (ltb-false _ _ a, ltb-false _ _ b)))) in rw e
+
+pub step-wrong : (s : State) (c : Call) → LongEnough c → wrongObject (c .operation) (s .objects) ≡ true → (libraryStep s c) .answer ≡ 1
+unfolding libraryStep firstRefusal
+step-wrong s c l w = let a : ltb (length (c .lent .wake)) ((least (c .operation)) .0) ≡ false = le-ltb _ _ (l .0) in let b : ltb (length (c .lent .buffer)) ((least (c .operation)) .1) ≡ false = le-ltb _ _ (l .1) in
+    rw (a, b, wrong-first (c .operation) s w)
 
 -- on a state nobody answers 9
 pub never-corrupt : (wakeUp : List ℕ → State → Woken) (s : State) (c : Call) → (perform wakeUp s c) .answer ≡ 9 → ⊥

@@ -4,34 +4,35 @@ use mathlib.Core.Bool.{Bool, true, false, not, _&&_, and-true, cond}
 use mathlib.Core.List.{List, [], _∷_, map}
 use mathlib.Core.Option.{Option, none, some}
 use mathlib.Core.Logic.{_⊎_, inl, inr, ⊎-elim, _↔_}
-use Prim.Native.Nat.{ℕ, suc, _+_, _*_, _≤_}
+use Prim.Native.Nat.{ℕ, zero, suc, _+_, _*_, _≤_, _<_}
 use native.Mathlib.Omega.{arith}
 use lib.ListN.{length, getD, replicate}
 use lib.Dec.{eqb, ltb}
 use borrow.Author.Tests.{eqb-false, le-ltb, eq-eqb, ne-eqb}
-use Rattle.model.specs.Basics.{corrupt, maybe, anyOf, member, joined, All, overwrite}
+use Rattle.model.specs.Basics.{corrupt, maybe, anyOf, member, tabulate, joined, All, overwrite}
 use Rattle.model.specs.Calls.{wait, cancel, Lent, nothingLent, Call, asks, least, refusal, waitFaults, timeUp}
 use Rattle.model.specs.Calls.{newWait, mustQueue, waitsFull, refusals, admits, change, WithinWidths}
 use Rattle.model.specs.Layout.{objectSize, waitSize, tableLength, objectCells, waitCells, encode, view}
 use Rattle.model.specs.Layout.{validTables}
 use Rattle.model.specs.Sizes.{objectPlaces, waitPlaces, ticketsEnd}
-use Rattle.model.specs.Objects.{Object}
+use Rattle.model.specs.Objects.{Object, empty}
 use Rattle.model.specs.Steps.{Outcome, unaltered, conditions, firstRefusal, records, libraryStep, referenceStep}
 use Rattle.model.specs.Steps.{onTables, asRead, tableStep, run, makeTables}
-use Rattle.model.specs.Notions.{refusalNumbers, FirstIs, Quiet, touched, Rising, AllOrNone}
+use Rattle.model.specs.Notions.{refusalNumbers, FirstIs, Quiet, touched, Rising, AllOrNone, LongEnough, wrongObject}
 use Rattle.model.specs.Waits.{Mode, all, Wait, free, waiting, State, initial, objectAt, Grant, attempt, servable}
 use Rattle.model.specs.Waits.{anyAbandoned, servedAnswer, wakeByWalk, wakeBySearch}
 use Rattle.model.proofs.History.{Settled, step-same, step-settled, initial-settled}
-use Rattle.model.proofs.Waking.{each}
+use Rattle.model.proofs.Waking.{each, search-quiet}
+use Rattle.model.proofs.Queue.{count-length}
 use Rattle.model.proofs.Logic.{byBool, byOption, isSome, clash}
 use Rattle.model.proofs.Frame.{Untaken, Unreported, step-objects, UsedPlace, step-stays, step-free}
 use Rattle.model.proofs.Validity.{tables-valid, encoded-valid}
 use Rattle.model.proofs.Reports.{Left, Told, ByReports, step-room, step-left, step-rises, step-told}
 use Rattle.model.proofs.Reports.{step-all-queued, unserved-all, not-served, step-all-now}
 use Rattle.model.proofs.Rules.{perform-case}
-use Rattle.model.proofs.Answers.{among, refused-numbered, step-low, step-refused, step-ended, step-spends}
+use Rattle.model.proofs.Answers.{step-short, step-wrong, among, refused-numbered, step-low, step-refused, step-ended, step-spends}
 use Rattle.model.proofs.Answers.{never-corrupt, step-exactly}
-use Rattle.model.proofs.Valid.{Valid, step-valid}
+use Rattle.model.proofs.Valid.{Valid, step-valid, valid-consistent}
 use Rattle.model.proofs.Cells.{encode-length, view-objects, view-encode}
 
 -- a step on tables, by whether they are valid
@@ -54,6 +55,26 @@ tables-ended t c = tables-case t c (λ o. member (o .answer) (5 ∷ 6 ∷ []) �
     (λ n m. refl)
     (λ e g m. let s : State = (libraryStep (view t) c) .held in let q : s .objects ≡ (view t) .objects = step-ended (view t) c m in
     view-objects s (ap length q ∙ g .places) ∙ q)
+
+-- each wrong input by its number
+pub tables-refuse : (t : List ℕ) (c : Call) → (validTables t ≡ false → (tableStep t c) .answer ≡ 9)
+    × (validTables t ≡ true → (LongEnough c → ⊥) → (tableStep t c) .answer ≡ 12)
+    × (validTables t ≡ true → LongEnough c → wrongObject (c .operation) ((view t) .objects) ≡ true → (tableStep t c) .answer ≡ 1)
+unfolding tableStep
+tables-refuse t c = (λ f. rw f, λ v n. rw v (step-short (view t) c n), λ v l w. rw v (step-wrong (view t) c l w))
+
+-- whatever the cells, a number that is no handle names nothing
+tabulate-past : (n : ℕ) (f : ℕ → Object) (i : ℕ) → n ≤ i → getD (tabulate n f) i empty ≡ empty
+unfolding tabulate
+tabulate-past zero f i l = refl
+tabulate-past (suc n) f zero l = absurd (let z : ⊥ = omega arith in z)
+tabulate-past (suc n) f (suc i) l = tabulate-past n (λ i. f (suc i)) i (omega arith)
+
+pub tables-unknown : (t : List ℕ) (h : ℕ) → (h ≡ 0) ⊎ (objectPlaces < h) → objectAt ((view t) .objects) h ≡ empty
+unfolding view
+tables-unknown t zero e = refl
+tables-unknown t (suc i) (inl e) = absurd (let z : ⊥ = omega arith in z)
+tables-unknown t (suc i) (inr l) = tabulate-past objectPlaces _ i (omega arith)
 
 -- EXACTLY
 nine-refused : (n : ℕ) → n ≡ 9 → member n refusalNumbers ≡ true
@@ -181,6 +202,9 @@ pub tables-all-now : (t : List ℕ) (hs : List ℕ) (o f p a timeout time : ℕ)
 tables-all-now t hs o f p a timeout time l fit = left-tables t (asks (wait all hs o f p a timeout time) l) fit
     (λ s r. AllOrNone (newWait all hs o f a timeout 0) (r .answer) (r .first) ((view t) .objects) (s .objects))
     (unserved-all _ 9 0 _ _ (not-served 9 refl refl) refl) (λ g. step-all-now hs o f p a timeout time l (view t))
+
+pub search-ends : (s : State) → Valid s → Quiet ((wakeBySearch [] s) .state)
+search-ends s g = search-quiet (length (s .waits)) s (valid-consistent s g) (count-length each (s .waits))
 
 -- HISTORIES
 pub settled-step : (s : State) (c : Call) → WithinWidths c → Settled s → tableStep (encode s) c ≡ onTables (referenceStep s c)

@@ -8,10 +8,11 @@ use mathlib.Core.Logic.{_⊎_, _↔_}
 use Prim.Native.Nat.{ℕ, suc, _≤_, _<_}
 use lib.ListN.{length, getD}
 use lib.Dec.{eqb}
-use Rattle.model.specs.Sizes.{ticketsEnd, snapshotBuffer, longestSnapshot}
+use Rattle.model.specs.Sizes.{objectPlaces, ticketsEnd, snapshotBuffer, longestSnapshot}
 use Rattle.model.specs.Basics.{corrupt, maybe, anyOf, member, hasRepeat, All, overwrite}
-use Rattle.model.specs.Objects.{Object, cleared}
+use Rattle.model.specs.Objects.{Object, empty, cleared}
 use Rattle.model.specs.Waits.{Mode, all, Wait, free, waiting, State, initial, objectAt, putAt, servable}
+use Rattle.model.specs.Waits.{wakeBySearch}
 use Rattle.model.specs.Snapshot.{snapshotText}
 use Rattle.model.specs.Calls.{wait, cancel, Lent, nothingLent, Call, asks, refusal, waitFaults, timeUp, newWait}
 use Rattle.model.specs.Calls.{waitsFull, change, WithinWidths}
@@ -20,12 +21,12 @@ use Rattle.model.specs.ValidCells.{ValidCells}
 use Rattle.model.specs.Steps.{Outcome, unaltered, conditions, firstRefusal, records, referenceStep, onTables}
 use Rattle.model.specs.Steps.{asRead, tableStep, seen, run, makeTables}
 use Rattle.model.specs.Notions.{refusalNumbers, FirstIs, _isIn_, Quiet, takenBy, touched, Rising, Served, Ended}
-use Rattle.model.specs.Notions.{OneByOne, AllOrNone}
+use Rattle.model.specs.Notions.{OneByOne, AllOrNone, LongEnough, wrongObject}
 use Rattle.model.proofs.History.{initial-settled}
 use Rattle.model.proofs.Literal.{test-lines, lines-test}
 use Rattle.model.proofs.Reports.{rising-once}
 use Rattle.model.proofs.SnapshotLength.{snapshot-longest, snapshot-fits, longest, longest-length, longest-valid}
-use Rattle.model.proofs.Tables.{tables-low, tables-refused, tables-ended, tables-exactly, wait-queued}
+use Rattle.model.proofs.Tables.{tables-refuse, tables-unknown, search-ends, tables-low, tables-refused, tables-ended, tables-exactly, wait-queued}
 use Rattle.model.proofs.Tables.{tables-objects, tables-stays, tables-free, tables-room, tables-wake, tables-left}
 use Rattle.model.proofs.Tables.{tables-rise, tables-spend, tables-told, tables-all-now, settled-run}
 use Rattle.model.proofs.Tables.{settled-read, run-quiet}
@@ -41,6 +42,19 @@ pub demand-1 : (t : List ℕ) (c : Call) → ((tableStep t c) .answer ≤ 12)
     × (member ((tableStep t c) .answer) (5 ∷ 6 ∷ []) ≡ true
     → (view ((tableStep t c) .held)) .objects ≡ (view t) .objects)
 demand-1 t c = (tables-low t c, tables-refused t c, tables-ended t c)
+
+-- "Damaged tables, a handle past the end, the wrong kind of object, a wake list too short: each is refused by its stated
+-- number": damaged tables with 9, whatever else is wrong; then what is lent and too short with 12; then a handle that
+-- names nothing, or an object of another kind than the call is for, with 1.
+pub refused-by-number : (t : List ℕ) (c : Call) → (validTables t ≡ false → (tableStep t c) .answer ≡ 9)
+    × (validTables t ≡ true → (LongEnough c → ⊥) → (tableStep t c) .answer ≡ 12)
+    × (validTables t ≡ true → LongEnough c → wrongObject (c .operation) ((view t) .objects) ≡ true
+    → (tableStep t c) .answer ≡ 1)
+refused-by-number t c = tables-refuse t c
+
+-- Past the end, and 0, names nothing, whatever the cells.
+pub past-the-end : (t : List ℕ) (h : ℕ) → (h ≡ 0) ⊎ (objectPlaces < h) → objectAt ((view t) .objects) h ≡ empty
+past-the-end t h l = tables-unknown t h l
 
 -- 1. DEMAND 3. For every list of calls on newly made tables, refused ones included, every outcome (answer, numbers,
 -- reports in order, every cell of what is lent, every value held, place by place) equals the reference's. The only
@@ -78,6 +92,10 @@ rows-of-histories es fit = settled-rows initial es fit initial-settled
 pub demand-3-seen : (cs : List Call) → All WithinWidths cs
     → map seen (run tableStep (encode initial) cs) ≡ map seen (map onTables (run referenceStep initial cs))
 demand-3-seen cs fit = ap (λ (os : List (Outcome (List ℕ))). map seen os) (demand-3 cs fit)
+
+-- 1e. The reference "searches again until none can": from any valid state its search leaves no wait that could be served.
+pub searches-until-none : (s : State) → validState s ≡ true → Quiet ((wakeBySearch [] s) .state)
+searches-until-none s v = search-ends s (test-valid s v)
 
 -- 2. After every call of a history no queued wait could be served.
 pub always-quiet : (cs : List Call) → All WithinWidths cs

@@ -1,18 +1,19 @@
 -- The notions in which the theorems speak of steps and histories.
 use mathlib.Core.Path.{_≡_}
-use mathlib.Core.Bool.{true, false, _||_, cond}
+use mathlib.Core.Bool.{Bool, true, false, not, _||_, cond}
 use mathlib.Core.List.{List, [], _∷_}
 use mathlib.Core.Option.{some}
 use mathlib.Core.Logic.{_⊎_}
-use Prim.Native.Nat.{ℕ, _<_}
+use Prim.Native.Nat.{ℕ, _≤_, _<_}
 use lib.ListN.{length, getD}
 use lib.Dec.{eqb}
 use Rattle.model.specs.Basics.{member, number, done, ownerDead, timedOut}
-use Rattle.model.specs.Objects.{Object, acquired}
+use Rattle.model.specs.Objects.{Object, byKind, occupied, isEvent, acquired}
 use Rattle.model.specs.Waits.{Mode, any, all, Wait, WaitPlace, free, waiting, State, objectAt, Grant, attempt}
 use Rattle.model.specs.Waits.{servable, acquireEach, servedAnswer, Report}
 use Rattle.model.specs.Calls.{Operation, create, close, resetEvent, read, signal, wait, expire, cancel, snapshot}
-use Rattle.model.specs.Calls.{Refusal, newWait}
+use Rattle.model.specs.Calls.{Kind, aSemaphore, aMutex, anEvent, Signal, post, unlock, kill, setEvent, pulseEvent}
+use Rattle.model.specs.Calls.{Call, least, Refusal, allOccupied, newWait}
 
 -- "Refusals are 1, 2, 3, 7, 8, 9, 10 and 12."
 abbrev pub refusalNumbers : List ℕ
@@ -22,6 +23,36 @@ refusalNumbers = 1 ∷ 2 ∷ 3 ∷ 7 ∷ 8 ∷ 9 ∷ 10 ∷ 12 ∷ []
 abbrev pub FirstIs : ℕ → List Refusal → Type 0
 FirstIs n [] = ⊥
 FirstIs n (r ∷ rs) = ((r .holds ≡ true) × (r .number ≡ n)) ⊎ ((r .holds ≡ false) × FirstIs n rs)
+
+-- what is lent is long enough
+abbrev pub LongEnough : Call → Type 0
+LongEnough c = ((least (c .operation)) .0 ≤ length (c .lent .wake)) × ((least (c .operation)) .1 ≤ length (c .lent .buffer))
+
+-- "Wrong kind or empty or unknown handle: EINVAL everywhere." The call names an object that is not there, or not of the
+-- kind that it is for.
+abbrev pub ofKind : Kind → Object → Bool
+ofKind aSemaphore x = byKind x false (λ c m. true) (λ o c a. false) (λ s m. false)
+ofKind aMutex x = byKind x false (λ c m. false) (λ o c a. true) (λ s m. false)
+ofKind anEvent x = isEvent x
+
+abbrev pub kindFor : Signal → Kind
+kindFor (post add) = aSemaphore
+kindFor (unlock o) = aMutex
+kindFor (kill o) = aMutex
+kindFor setEvent = anEvent
+kindFor pulseEvent = anEvent
+
+abbrev pub wrongObject : Operation → List Object → Bool
+wrongObject (create k x y) os = false
+wrongObject (close h) os = not (occupied (objectAt os h))
+wrongObject (resetEvent h) os = not (isEvent (objectAt os h))
+wrongObject (read k h) os = not (ofKind k (objectAt os h))
+wrongObject (signal how h) os = not (ofKind (kindFor how) (objectAt os h))
+wrongObject (wait mode hs o f p a timeout time) os =
+    not (allOccupied os hs) || not (eqb a 0 || isEvent (objectAt os a))
+wrongObject (expire c t) os = false
+wrongObject (cancel t) os = false
+wrongObject snapshot os = false
 
 -- a wait stands in the queue
 infix 40 _isIn_
