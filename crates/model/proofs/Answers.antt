@@ -10,7 +10,8 @@ use lib.ListN.{length}
 use lib.Dec.{eqb, ltb}
 use borrow.Author.Tests.{ltb-false, le-ltb, eqb-true, eqb-false}
 use Rattle.model.specs.Basics.{done, ownerDead, number, anyOf, member, All}
-use Rattle.model.specs.Calls.{endEach, least, listTooShort, allOccupied, repeats, Kind, aSemaphore, aMutex, anEvent, Signal, post, unlock, kill, setEvent}
+use Rattle.model.specs.Calls.{endEach, least, listTooShort, allOccupied, repeats, Kind, aSemaphore, aMutex}
+use Rattle.model.specs.Calls.{anEvent, Signal, post, unlock, kill, setEvent}
 use Rattle.model.specs.Calls.{pulseEvent, Operation, create, close, resetEvent, read, signal, wait, expire}
 use Rattle.model.specs.Calls.{cancel, snapshot, Call, Refusal, Rule, rule, wrongKind, onSemaphore, onMutex}
 use Rattle.model.specs.Calls.{onEvent, readRule, signalRule, timeUp, newWait, refusals, Change, admits, change}

@@ -12,10 +12,12 @@ use lib.Seq.{getD-set-same}
 use lib.Dec.{eqb, ltb}
 use borrow.Author.Tests.{ltb-true, ltb-false, eqb-true, eqb-false, not-true}
 use Rattle.model.specs.Basics.{anyOf, member, hasRepeat, All}
-use Rattle.model.specs.Objects.{Object, empty, semaphore, mutex, event, occupied, signaled, acquired, cleared}
+use Rattle.model.specs.Objects.{isEvent, Object, empty, semaphore, mutex, event, occupied, signaled, acquired}
+use Rattle.model.specs.Objects.{cleared}
 use Rattle.model.specs.Waits.{all, Wait, WaitPlace, State, withWaits, objectAt, putAt, Grant, allSignaled, look}
 use Rattle.model.specs.Waits.{attempt, acquireEach, anyAbandoned, servedAnswer, dequeue, oldest, concernedBy}
 use Rattle.model.specs.Waits.{Report, serve, tryToServe, walkQueue, wakeByWalk}
+use Rattle.model.specs.Calls.{signalRule, pulseEvent}
 use Rattle.model.specs.Calls.{Lent, asks, Operation, create, close, resetEvent, read, signal, wait, expire}
 use Rattle.model.specs.Calls.{cancel, snapshot, Call, least, refusals, timeUp, newWait, listTooShort, repeats}
 use Rattle.model.specs.Calls.{waitFaults, endEach, Change, change, admits}
@@ -26,12 +28,12 @@ use Rattle.model.proofs.Logic.{byBool, byOption, clash, differ, or-left
 use Rattle.model.proofs.Logic.{fault-free}
 use Rattle.model.proofs.Queue.{Oldest, oldest-some, dequeue-in}
 use Rattle.model.proofs.Waking.{after, walk-keeps, walk-nothing}
-use Rattle.model.proofs.Rules.{due, perform-case}
+use Rattle.model.proofs.Rules.{Accepted, due, perform-case}
 use Rattle.model.proofs.Acquiring.{at-put-other, acquireAt, acquireEach-occupied, attempt-signaled}
 use Rattle.model.proofs.History.{endEach-objects}
 use Rattle.model.proofs.Frame.{all-map, clears-none, admits-quietly, change-queue}
 use Rattle.model.proofs.Answers.{refused-numbered, refused-not}
-use Rattle.model.proofs.Valid.{Valid, in-places}
+use Rattle.model.proofs.Valid.{Valid, in-places, still-acquireEach, event-occupied}
 
 -- THE WAKE LIST HAS ROOM: each visit reports one wait at most
 pub walk-few : (n : ℕ) (changed : List ℕ) (last : ℕ) (s : State) → length ((walkQueue n changed last s) .reports) ≤ n
@@ -396,3 +398,27 @@ module _ (hs : List ℕ) (o f p a timeout time : ℕ) (l : Lent) (s : State) whe
 
       refused-four : (n : ℕ) → member n refusalNumbers ≡ true → eqb n 4 ≡ false
       refused-four n k = refused-not n 4 refl k
+
+-- A PULSE leaves its event unset
+cleared-unset : (o : ℕ) (x : Object) → isEvent x ≡ true → signaled o (cleared x) ≡ false
+cleared-unset o empty e = clash e refl
+cleared-unset o (semaphore c m) e = clash e refl
+cleared-unset o (mutex w c a) e = clash e refl
+cleared-unset o (event v m) e = refl
+
+pulses-event : (x : Object) → Accepted ((signalRule pulseEvent x) .refusals) → (isEvent x ≡ true) × (isEvent ((signalRule pulseEvent x) .next) ≡ true)
+pulses-event empty a = clash refl (a .0)
+pulses-event (semaphore c m) a = clash refl (a .0)
+pulses-event (mutex o c b) a = clash refl (a .0)
+pulses-event (event v m) a = (refl, refl)
+
+pub step-pulse : (s : State) (h : ℕ) (l : Lent) → let r = libraryStep s (asks (signal pulseEvent h) l) in r .answer ≡ 0 → (o : ℕ) → signaled o (objectAt (r .held .objects) h) ≡ false
+unfolding libraryStep change refusals member
+step-pulse s h l = let c : Call = asks (signal pulseEvent h) l in perform-case wakeByWalk s c (λ r. r .answer ≡ 0 → (o : ℕ) → signaled o (objectAt (r .held .objects) h) ≡ false)
+    (λ n e z o. absurd (eqb-false n 0 (refused-not n 0 refl (refused-numbered c s n e)) z))
+    (λ a z o. let x : Object = objectAt (s .objects) h in let p = pulses-event x (a .1) in let d : Change = change (signal pulseEvent h) s in
+    let put : isEvent (objectAt (d .state .objects) h) ≡ true = rw (at-put-same (s .objects) h ((signalRule pulseEvent x) .next) (event-occupied x (p .0))) (p .1) in
+    let v : State = (wakeByWalk (d .changed) (d .state)) .state in
+    let kept : isEvent (objectAt (v .objects) h) ≡ true = walk-keeps (λ u. isEvent (objectAt (u .objects) h) ≡ true) (λ u w t m q k. (still-acquireEach (w .owner) (u .objects) (t .handles) h) .1 k)
+    (length (d .state .waits)) (d .changed) 0 (d .state) put in
+    rw (at-put-same (v .objects) h (cleared (objectAt (v .objects) h)) (event-occupied (objectAt (v .objects) h) kept)) (cleared-unset o (objectAt (v .objects) h) kept))

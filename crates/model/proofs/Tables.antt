@@ -10,15 +10,17 @@ use lib.ListN.{length, getD, replicate}
 use lib.Dec.{eqb, ltb}
 use borrow.Author.Tests.{eqb-false, le-ltb, eq-eqb, ne-eqb}
 use Rattle.model.specs.Basics.{corrupt, maybe, anyOf, member, tabulate, joined, All, overwrite}
-use Rattle.model.specs.Calls.{wait, cancel, Lent, nothingLent, Call, asks, least, refusal, waitFaults, timeUp}
+use Rattle.model.specs.Calls.{signal, pulseEvent, wait, cancel, Lent, nothingLent, Call, asks, least, refusal}
+use Rattle.model.specs.Calls.{waitFaults, timeUp}
 use Rattle.model.specs.Calls.{newWait, mustQueue, waitsFull, refusals, admits, change, WithinWidths}
 use Rattle.model.specs.Layout.{objectSize, waitSize, tableLength, objectCells, waitCells, encode, view}
 use Rattle.model.specs.Layout.{validTables}
 use Rattle.model.specs.Sizes.{objectPlaces, waitPlaces, ticketsEnd}
-use Rattle.model.specs.Objects.{Object, empty}
+use Rattle.model.specs.Objects.{Object, empty, signaled}
 use Rattle.model.specs.Steps.{Outcome, unaltered, conditions, firstRefusal, records, libraryStep, referenceStep}
 use Rattle.model.specs.Steps.{onTables, asRead, tableStep, run, makeTables}
-use Rattle.model.specs.Notions.{refusalNumbers, FirstIs, Quiet, touched, Rising, AllOrNone, LongEnough, wrongObject}
+use Rattle.model.specs.Notions.{refusalNumbers, FirstIs, Quiet, touched, Rising, AllOrNone, LongEnough}
+use Rattle.model.specs.Notions.{wrongObject}
 use Rattle.model.specs.Waits.{Mode, all, Wait, free, waiting, State, initial, objectAt, Grant, attempt, servable}
 use Rattle.model.specs.Waits.{anyAbandoned, servedAnswer, wakeByWalk, wakeBySearch}
 use Rattle.model.proofs.History.{Settled, step-same, step-settled, initial-settled}
@@ -27,10 +29,11 @@ use Rattle.model.proofs.Queue.{count-length}
 use Rattle.model.proofs.Logic.{byBool, byOption, isSome, clash}
 use Rattle.model.proofs.Frame.{Untaken, Unreported, step-objects, UsedPlace, step-stays, step-free}
 use Rattle.model.proofs.Validity.{tables-valid, encoded-valid}
-use Rattle.model.proofs.Reports.{Left, Told, ByReports, step-room, step-left, step-rises, step-told}
+use Rattle.model.proofs.Reports.{step-pulse, Left, Told, ByReports, step-room, step-left, step-rises, step-told}
 use Rattle.model.proofs.Reports.{step-all-queued, unserved-all, not-served, step-all-now}
 use Rattle.model.proofs.Rules.{perform-case}
-use Rattle.model.proofs.Answers.{step-short, step-wrong, among, refused-numbered, step-low, step-refused, step-ended, step-spends}
+use Rattle.model.proofs.Answers.{step-short, step-wrong, among, refused-numbered, step-low, step-refused}
+use Rattle.model.proofs.Answers.{step-ended, step-spends}
 use Rattle.model.proofs.Answers.{never-corrupt, step-exactly}
 use Rattle.model.proofs.Valid.{Valid, step-valid, valid-consistent}
 use Rattle.model.proofs.Cells.{encode-length, view-objects, view-encode}
@@ -202,6 +205,11 @@ pub tables-all-now : (t : List ℕ) (hs : List ℕ) (o f p a timeout time : ℕ)
 tables-all-now t hs o f p a timeout time l fit = left-tables t (asks (wait all hs o f p a timeout time) l) fit
     (λ s r. AllOrNone (newWait all hs o f a timeout 0) (r .answer) (r .first) ((view t) .objects) (s .objects))
     (unserved-all _ 9 0 _ _ (not-served 9 refl refl) refl) (λ g. step-all-now hs o f p a timeout time l (view t))
+
+pub tables-pulse : (t : List ℕ) (h : ℕ) (l : Lent) → WithinWidths (asks (signal pulseEvent h) l) → let r = tableStep t (asks (signal pulseEvent h) l) in
+    r .answer ≡ 0 → (o : ℕ) → signaled o (objectAt ((view (r .held)) .objects) h) ≡ false
+tables-pulse t h l fit = left-tables t (asks (signal pulseEvent h) l) fit (λ s r. r .answer ≡ 0 → (o : ℕ) → signaled o (objectAt (s .objects) h) ≡ false)
+    (λ z. absurd (let y : ⊥ = omega arith in y)) (λ g. step-pulse (view t) h l)
 
 pub search-ends : (s : State) → Valid s → Quiet ((wakeBySearch [] s) .state)
 search-ends s g = search-quiet (length (s .waits)) s (valid-consistent s g) (count-length each (s .waits))

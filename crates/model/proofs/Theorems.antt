@@ -10,12 +10,12 @@ use lib.ListN.{length, getD}
 use lib.Dec.{eqb}
 use Rattle.model.specs.Sizes.{objectPlaces, ticketsEnd, snapshotBuffer, longestSnapshot}
 use Rattle.model.specs.Basics.{corrupt, maybe, anyOf, member, hasRepeat, All, overwrite}
-use Rattle.model.specs.Objects.{Object, empty, cleared}
+use Rattle.model.specs.Objects.{Object, empty, signaled, cleared}
 use Rattle.model.specs.Waits.{Mode, all, Wait, free, waiting, State, initial, objectAt, putAt, servable}
 use Rattle.model.specs.Waits.{wakeBySearch}
 use Rattle.model.specs.Snapshot.{snapshotText}
 use Rattle.model.specs.Calls.{wait, cancel, Lent, nothingLent, Call, asks, refusal, waitFaults, timeUp, newWait}
-use Rattle.model.specs.Calls.{waitsFull, change, WithinWidths}
+use Rattle.model.specs.Calls.{pulseEvent, signal, waitsFull, change, WithinWidths}
 use Rattle.model.specs.Layout.{tableLength, encode, view, validState, validTables}
 use Rattle.model.specs.ValidCells.{ValidCells}
 use Rattle.model.specs.Steps.{Outcome, unaltered, conditions, firstRefusal, records, referenceStep, onTables}
@@ -26,9 +26,11 @@ use Rattle.model.proofs.History.{initial-settled}
 use Rattle.model.proofs.Literal.{test-lines, lines-test}
 use Rattle.model.proofs.Reports.{rising-once}
 use Rattle.model.proofs.SnapshotLength.{snapshot-longest, snapshot-fits, longest, longest-length, longest-valid}
-use Rattle.model.proofs.Tables.{tables-refuse, tables-unknown, search-ends, tables-low, tables-refused, tables-ended, tables-exactly, wait-queued}
+use Rattle.model.proofs.Tables.{tables-refuse, tables-unknown, search-ends, tables-low, tables-refused}
+use Rattle.model.proofs.Tables.{tables-ended, tables-exactly, wait-queued}
 use Rattle.model.proofs.Tables.{tables-objects, tables-stays, tables-free, tables-room, tables-wake, tables-left}
-use Rattle.model.proofs.Tables.{tables-rise, tables-spend, tables-told, tables-all-now, settled-run}
+use Rattle.model.proofs.Tables.{tables-pulse, tables-rise, tables-spend, tables-told, tables-all-now}
+use Rattle.model.proofs.Tables.{settled-run}
 use Rattle.model.proofs.Tables.{settled-read, run-quiet}
 use Rattle.model.proofs.Tables.{reference-uncorrupted, run-uncorrupted, make-either, settled-rows}
 use Rattle.model.proofs.Validity.{test-valid, valid-test}
@@ -188,6 +190,12 @@ pub records-were-served : (t : List ℕ) → validTables t ≡ true → (c : Cal
     ((tableStep t c) .reports) (d .state .objects) last
     × ((view ((tableStep t c) .held)) .objects ≡ putAt last (d .clears) (cleared (objectAt last (d .clears))))
 records-were-served t v c fit a = (tables-told t v c fit a) .0
+
+-- "A pulse clears its event after that search": after a pulse answered 0 its event is signaled for nobody.
+pub pulse-clears : (t : List ℕ) (h : ℕ) (l : Lent) → let c = asks (signal pulseEvent h) l in WithinWidths c
+    → (tableStep t c) .answer ≡ 0 → (o : ℕ)
+    → signaled o (objectAt ((view ((tableStep t c) .held)) .objects) h) ≡ false
+pulse-clears t h l fit = tables-pulse t h l fit
 
 -- 7. "A WAIT FOR ALL TAKES EVERY OBJECT OR NONE." A fresh one, on any cells and with any arguments:
 pub all-or-none-now : (t : List ℕ) (hs : List ℕ) (o f p a timeout time : ℕ) (l : Lent)

@@ -93,7 +93,7 @@ still-putAt os h x t k = ⊎-elim
     (λ (q : objectAt (putAt os h x) k ≡ objectAt os k). rw q (still-refl (objectAt os k)))
     (λ (q : (k ≡ h) × (objectAt (putAt os h x) k ≡ x)). let a = q .1 in let b = q .0 in rw (a, b) t) (at-put os h x k)
 
-still-acquireEach : (o : ℕ) (os : List Object) (hs : List ℕ) (k : ℕ) → Still (objectAt os k) (objectAt (acquireEach o os hs) k)
+pub still-acquireEach : (o : ℕ) (os : List Object) (hs : List ℕ) (k : ℕ) → Still (objectAt os k) (objectAt (acquireEach o os hs) k)
 unfolding acquireEach
 still-acquireEach o os [] k = still-refl (objectAt os k)
 still-acquireEach o os (h ∷ hs) k = let a = still-putAt os h (acquired o (objectAt os h)) (still-acquired o (objectAt os h)) k in let b = still-acquireEach o (acquireAt o os h) hs k in
