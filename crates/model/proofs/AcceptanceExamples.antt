@@ -1,23 +1,20 @@
 -- P1 to P12 of document 01 ("Bench readings"), as one checked list, by computation, for the library's step and for the
 -- reference's.
 use mathlib.Core.Path.{_≡_, refl}
-use mathlib.Core.Bool.{true, false}
-use native.Mathlib.Omega.{arith}
-use lib.Dec.{lit<}
 use mathlib.Core.List.{List, [], _∷_, _++_, map}
-use Prim.Native.Nat.{ℕ, suc, _-_, _≤_}
-use lib.ListN.{set, replicate, take}
-use Rattle.model.specs.Basics.{anyOf, allOf, member, hasRepeat, tabulate, joined}
-use Rattle.model.specs.Calls.{aSemaphore, aMutex, anEvent, post, unlock, kill, setEvent, pulseEvent, Operation, create, close, read, signal, wait, expire, cancel, wakeLent, Call, least, lowestEmpty, allOccupied, waitsFull, enqueue, refusals, admits, endEach, change}
-use Rattle.model.specs.Snapshot.{ascii, digitsUpTo, line, objectText, objectsText, objectCount, waitText, queueFrom, snapshotText}
-use Rattle.model.specs.Layout.{waitSize, tableLength, objectCells, waitCells, encode, view, distinctTickets, sameCells, validTables}
-use Rattle.model.specs.Sizes.{objectPlaces, waitPlaces, mutexCeiling, never, wakeLength}
-use Rattle.model.specs.ValidCells.{ValidCells}
-use Rattle.model.proofs.Literal.{test-lines}
-use Rattle.model.proofs.Validity.{encoded-valid}
-use Rattle.model.proofs.History.{initial-settled}
+use Prim.Native.Nat.{ℕ, suc, _-_}
+use lib.ListN.{replicate}
+use Rattle.model.specs.Basics.{anyOf, member, hasRepeat, joined}
+use Rattle.model.specs.Calls.{aSemaphore, aMutex, anEvent, post, unlock, kill, setEvent, pulseEvent, Operation}
+use Rattle.model.specs.Calls.{create, close, read, signal, wait, expire, cancel, wakeLent, Call, least}
+use Rattle.model.specs.Calls.{lowestEmpty, allOccupied, waitsFull, enqueue, refusals, admits, endEach, change}
+use Rattle.model.specs.Snapshot.{ascii, digitsUpTo, line, objectText, objectsText, objectCount, waitText}
+use Rattle.model.specs.Snapshot.{queueFrom, snapshotText}
+use Rattle.model.specs.Sizes.{objectPlaces, mutexCeiling, never, wakeLength}
 use Rattle.model.specs.Steps.{Outcome, firstRefusal, records, libraryStep, referenceStep, run}
-use Rattle.model.specs.Waits.{Mode, any, all, State, initial, lowestSignaled, allSignaled, look, attempt, acquireEach, anyAbandoned, dequeue, oldest, concernedBy, serve, tryToServe, walkQueue, searchQueue}
+use Rattle.model.specs.Waits.{Mode, any, all, State, initial, lowestSignaled, allSignaled, look, attempt}
+use Rattle.model.specs.Waits.{acquireEach, anyAbandoned, dequeue, oldest, concernedBy, serve, tryToServe}
+use Rattle.model.specs.Waits.{walkQueue, searchQueue}
 
 -- what the caller hears: the answer, the two numbers, the reports as (ticket, answer, index)
 pub record Heard : Type 0 where
@@ -141,18 +138,3 @@ pub example-snapshot : snapshotText (lastState (run libraryStep initial (map cal
     ≡ ascii "next=2\nobjects=2\nhandle=1\nkind=sem\ncount=1\nmax=2\nhandle=2\nkind=event\nsignaled=0\nmanual=1\nwaits=1\nwait=1\nmode=all\nowner=7\nclock=mono\ntimeout=18446744073709551615\nalert=0\nn=2\nobj=1\nobj=2\n"
 unfolding lowestSignaled allSignaled look attempt acquireEach anyAbandoned dequeue oldest serve tryToServe member concernedBy walkQueue libraryStep firstRefusal records run refusals change least lowestEmpty waitsFull enqueue allOccupied hasRepeat anyOf admits snapshotText objectText objectsText objectCount waitText queueFrom joined line digitsUpTo
 example-snapshot = refl
-
--- One damaged cell of newly made tables, and one cell too few: each is corrupt, by the line that it breaks. Newly made tables
--- are not. (By lines and not by computing `validTables`: `view` reads thousands of cells by their index.)
-pub example-valid : validTables (encode initial) ≡ true
-example-valid = encoded-valid initial (initial-settled .valid)
-
-pub examples-corrupt : (validTables (set (encode initial) 0 0) ≡ true → ⊥) × (validTables (set (encode initial) 2 1) ≡ true → ⊥) × (validTables (set (encode initial) (tableLength - 1) 1) ≡ true → ⊥)
-    × (validTables (take (tableLength - 1) (encode initial)) ≡ true → ⊥)
-unfolding encode joined objectCells waitCells
-examples-corrupt = (
-  λ e. let l : 1 ≤ 0 = (test-lines (set (encode initial) 0 0) e) .next .0 in let z : ⊥ = omega arith in z,
-  λ e. let l : _≡_ {A = ℕ} 1 0 = ((test-lines (set (encode initial) 2 1) e) .objects 0 (lit< tt) .zeros refl) .0 in let z : ⊥ = omega arith in z,
-  λ e. let l : _≡_ {A = ℕ} 1 0 = (test-lines (set (encode initial) (tableLength - 1) 1) e) .free (waitPlaces - 1) (lit< tt) refl (waitSize - 1) (lit< tt) in let z : ⊥ = omega arith in z,
-  λ e. let l : _≡_ {A = ℕ} (tableLength - 1) tableLength = (test-lines (take (tableLength - 1) (encode initial)) e) .size in let z : ⊥ = omega arith in z,
-)

@@ -1,4 +1,5 @@
 pub mod AcceptanceExamples
+pub mod TableReadings
 pub mod WrongLibraries
 pub mod Logic
 pub mod Queue
@@ -16,5 +17,5 @@ pub mod SnapshotLength
 pub mod Answers
 pub mod Reports
 pub mod Tables
+pub mod DamageExamples
 pub mod Theorems
-pub mod TableReadings

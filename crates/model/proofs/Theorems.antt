@@ -1,5 +1,5 @@
 -- The theorems. `tableStep t c` is the library's outcome of call c on the cells t, `referenceStep` the reference's (01:
--- the fresh reckoning); definitions are in specs/. This file holds nothing else; the arguments stand in the files beside.
+-- the fresh reckoning); definitions are in specs/. This file holds nothing else; the arguments are in the files beside.
 use mathlib.Core.Path.{_≡_, ap}
 use mathlib.Core.Bool.{true, false, not, cond}
 use mathlib.Core.List.{List, [], _∷_, map}
@@ -35,9 +35,9 @@ use Rattle.model.proofs.Tables.{settled-read, run-quiet}
 use Rattle.model.proofs.Tables.{reference-uncorrupted, run-uncorrupted, make-either, settled-rows}
 use Rattle.model.proofs.Validity.{test-valid, valid-test}
 
--- 0. DEMAND 1. For any cells and any call the answer is one of 0 to 12; at 1, 2, 3, 7, 8, 9, 10 and 12 every cell of the
--- tables and of what is lent is as before, there is no report, and all other numbers are 0; at 5 and 6 every object has
--- the values that it had.
+-- 0. DEMAND 1. For any cells and any call the answer is one of 0 to 12; at 1, 2, 3, 7, 8, 9, 10 and 12 every cell of
+-- the tables and of what is lent is as before, there is no report, and all other numbers are 0; at 5 and 6 every object
+-- has the values that it had.
 pub demand-1 : (t : List ℕ) (c : Call) → ((tableStep t c) .answer ≤ 12)
     × (member ((tableStep t c) .answer) refusalNumbers ≡ true
     → tableStep t c ≡ unaltered ((tableStep t c) .answer) (c .lent) t)
@@ -45,8 +45,8 @@ pub demand-1 : (t : List ℕ) (c : Call) → ((tableStep t c) .answer ≤ 12)
     → (view ((tableStep t c) .held)) .objects ≡ (view t) .objects)
 demand-1 t c = (tables-low t c, tables-refused t c, tables-ended t c)
 
--- "Damaged tables, a handle past the end, the wrong kind of object, a wake list too short: each is refused by its stated
--- number": damaged tables with 9, whatever else is wrong; then what is lent and too short with 12; then a handle that
+-- "Damaged tables, a handle past the end, the wrong kind of object, a wake list too short: each is refused by its
+-- stated number": damaged tables with 9, whatever else is wrong; then what is lent and too short with 12; then a handle that
 -- names nothing, or an object of another kind than the call is for, with 1.
 pub refused-by-number : (t : List ℕ) (c : Call) → (validTables t ≡ false → (tableStep t c) .answer ≡ 9)
     × (validTables t ≡ true → (LongEnough c → ⊥) → (tableStep t c) .answer ≡ 12)
@@ -76,8 +76,8 @@ pub demand-3-from : (s : State) → validState s ≡ true → Quiet s → (cs : 
     → run tableStep (encode s) cs ≡ map onTables (run referenceStep s cs)
 demand-3-from s v q cs fit = settled-run s cs fit (record { valid = test-valid s v; quiet = q })
 
--- 1c. Making, on tables of the right length and whatever their cells, gives newly made tables and answer 0; on others it
--- is 9 and nothing altered. A list of calls with makings (`none`) in it is a row of histories, each begun anew ("Making
+-- 1c. Making, on tables of the right length and whatever their cells, gives newly made tables and answer 0; on others
+-- it is 9 and nothing altered. A list of calls with makings (`none`) in it is a row of histories, each begun anew ("Making
 -- starts a new history").
 pub making : (t : List ℕ)
     → (length t ≡ tableLength → makeTables t ≡ unaltered 0 nothingLent (encode initial))
@@ -95,7 +95,8 @@ pub demand-3-seen : (cs : List Call) → All WithinWidths cs
     → map seen (run tableStep (encode initial) cs) ≡ map seen (map onTables (run referenceStep initial cs))
 demand-3-seen cs fit = ap (λ (os : List (Outcome (List ℕ))). map seen os) (demand-3 cs fit)
 
--- 1e. The reference "searches again until none can": from any valid state its search leaves no wait that could be served.
+-- 1e. The reference "searches again until none can": from any valid state its search leaves no wait that could be
+-- served.
 pub searches-until-none : (s : State) → validState s ≡ true → Quiet ((wakeBySearch [] s) .state)
 searches-until-none s v = search-ends s (test-valid s v)
 
@@ -135,8 +136,8 @@ never-9 cs fit = run-uncorrupted initial cs fit initial-settled
 pub reference-never-9 : (s : State) (c : Call) → (referenceStep s c) .answer ≡ 9 → ⊥
 reference-never-9 s c = reference-uncorrupted s c
 
--- 5. DEMAND 2's "exactly", for any cells. A refusal's number is answered exactly if its condition holds and none earlier
--- in the order does: corrupt tables, then a list too short, then the conditions of `refusals`.
+-- 5. DEMAND 2's "exactly", for any cells. A refusal's number is answered exactly if its condition holds and none
+-- earlier in the order does: corrupt tables, then a list too short, then the conditions of `refusals`.
 pub exactly-refused : (t : List ℕ) (c : Call) (n : ℕ) → member n refusalNumbers ≡ true
     → ((tableStep t c) .answer ≡ n) ↔ FirstIs n (refusal corrupt (not (validTables t)) ∷ conditions c (view t))
 exactly-refused t c n k = tables-exactly t c n k
@@ -159,14 +160,16 @@ exactly-queued t v l mode hs o f p a timeout time ok = rw v (wait-queued mode hs
 -- "A queued wait takes the next ticket, which then rises by one; nothing else spends one." At answer 11 the next ticket
 -- rises by one, and at every other answer it stays.
 pub only-queuing-spends : (t : List ℕ) (c : Call) → WithinWidths c
-    → (view ((tableStep t c) .held)) .next ≡ cond (eqb ((tableStep t c) .answer) 11) (suc ((view t) .next)) ((view t) .next)
+    → (view ((tableStep t c) .held)) .next
+    ≡ cond (eqb ((tableStep t c) .answer) 11) (suc ((view t) .next)) ((view t) .next)
 only-queuing-spends t c fit = tables-spend t c fit
 
 -- 6. THE RECORDS ARE THE SERVED OR ENDED WAITS, for any cells. Each report's ticket is that of a wait queued before the
 -- call, and of no wait queued after it.
 pub records-are-waits : (t : List ℕ) (c : Call) → WithinWidths c
     → All (λ r. ((w : Wait) × (w isIn (view t) .waits) × (w .ticket ≡ r .ticket))
-    × ((v : Wait) → v isIn (view ((tableStep t c) .held)) .waits → v .ticket ≡ r .ticket → ⊥)) ((tableStep t c) .reports)
+    × ((v : Wait) → v isIn (view ((tableStep t c) .held)) .waits → v .ticket ≡ r .ticket → ⊥))
+    ((tableStep t c) .reports)
 records-are-waits t c fit = tables-left t c fit
 
 -- Their tickets rise, and no ticket comes twice.
@@ -213,8 +216,8 @@ pub all-or-none-queued : (t : List ℕ) → validTables t ≡ true → (c : Call
     × ((view ((tableStep t c) .held)) .objects ≡ putAt last (d .clears) (cleared (objectAt last (d .clears))))
 all-or-none-queued t v c fit a = (tables-told t v c fit a) .1
 
--- 8. THE SNAPSHOT. No snapshot of a valid state is longer than 28,425 bytes, so every one fits the least buffer; one has
--- that length.
+-- 8. THE SNAPSHOT. No snapshot of a valid state is longer than 28,425 bytes, so every one fits the least buffer; one
+-- has that length.
 pub longest-snapshot : (s : State) → validState s ≡ true
     → (length (snapshotText s) ≤ longestSnapshot) × (length (snapshotText s) ≤ snapshotBuffer)
 longest-snapshot s v = (snapshot-longest s (test-valid s v), snapshot-fits s (test-valid s v))

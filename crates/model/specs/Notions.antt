@@ -26,7 +26,7 @@ FirstIs n (r ∷ rs) = ((r .holds ≡ true) × (r .number ≡ n)) ⊎ ((r .holds
 
 -- what is lent is long enough
 abbrev pub LongEnough : Call → Type 0
-LongEnough c = ((least (c .operation)) .0 ≤ length (c .lent .wake)) × ((least (c .operation)) .1 ≤ length (c .lent .buffer))
+LongEnough c = let n = least (c .operation) in (n .0 ≤ length (c .lent .wake)) × (n .1 ≤ length (c .lent .buffer))
 
 -- "Wrong kind or empty or unknown handle: EINVAL everywhere." The call names an object that is not there, or not of the
 -- kind that it is for.
