@@ -1,5 +1,5 @@
 pub mod AcceptanceExamples
-pub mod TableReadings
+pub mod AcceptanceTables
 pub mod WrongLibraries
 pub mod Logic
 pub mod Queue
