@@ -6,7 +6,7 @@ use native.Mathlib.Omega.{arith}
 use lib.ListN.{length, getD, take}
 use Rattle.model.specs.Calls.{wakeLent, Call}
 use Rattle.model.specs.Steps.{tableStep, sees, seen, Handed, handed}
-use Rattle.ntsync.proofs.Laws.{handed-is}
+use Rattle.ntsync_fronts.proofs.Laws.{handed-is}
 
 no-cell : (cells : List ℕ) → length cells ≡ 0 → 0 ≡ getD cells 0 0
 no-cell [] z = refl

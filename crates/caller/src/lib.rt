@@ -1,5 +1,5 @@
-// A caller in Rattle that takes its own part of the wake list after the plain call: it knows every cell, those behind the
-// records too, which the part handed out by `post_woken` can't say (docs/DECISIONS.md).
+// A caller in Rattle that takes its own part of the wake list after the plain call: it knows every cell, those behind
+// the records too, which the part handed out by `post_woken` can't say (docs/DECISIONS.md).
 ghost use mathlib.Core.Path.{_≡_};
 ghost use mathlib.Core.List.{[]};
 ghost use lib.ListN.{getD};

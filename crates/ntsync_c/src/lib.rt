@@ -1,8 +1,10 @@
-// The C interface (include/ntsync.h): each public call under its C name, with the same equation. A slice is a pointer and its
-// number of elements.
+// The C interface (include/ntsync.h): each public call under its C name, with the same equation. A slice is a pointer
+// and its number of elements.
 ghost use mathlib.Core.Path.{_≡_};
 ghost use mathlib.Core.List.{[], _∷_};
-ghost use Rattle.model.specs.Calls.{create, close, resetEvent, read, signal, cancel, snapshot, wait, expire, post, unlock, kill, setEvent, pulseEvent, aSemaphore, aMutex, anEvent, nothingLent, wakeLent, bufferLent, asks};
+ghost use Rattle.model.specs.Calls.{create, close, resetEvent, read, signal, cancel, snapshot, wait, expire};
+ghost use Rattle.model.specs.Calls.{post, unlock, kill, setEvent, pulseEvent, aSemaphore, aMutex, anEvent};
+ghost use Rattle.model.specs.Calls.{nothingLent, wakeLent, bufferLent, asks};
 ghost use Rattle.model.specs.Steps.{tableStep, makeTables, seen, sees};
 ghost use Rattle.model.specs.Waits.{any, all};
 use ntsync::Created;
@@ -114,7 +116,8 @@ pub extern "C" fn ntsync_wait_any(
     timeout: u64,
     time: u64,
 ) -> Waited
-    ensures { λ r. ⌜ seen (tableStep (now (tables .entry)) (asks (wait any (now (handles .entry)) owner flags pad alert timeout time) nothingLent))
+    ensures { λ r. ⌜ seen (tableStep (now (tables .entry))
+        (asks (wait any (now (handles .entry)) owner flags pad alert timeout time) nothingLent))
         ≡ sees (r .answer ∷ r .index ∷ r .ticket ∷ 0 ∷ []) nothingLent (now (tables .exit)) ⌝ }
 {
     ntsync::wait_any(tables, handles, owner, alert, flags, pad, timeout, time)
@@ -131,7 +134,8 @@ pub extern "C" fn ntsync_wait_all(
     timeout: u64,
     time: u64,
 ) -> Waited
-    ensures { λ r. ⌜ seen (tableStep (now (tables .entry)) (asks (wait all (now (handles .entry)) owner flags pad alert timeout time) nothingLent))
+    ensures { λ r. ⌜ seen (tableStep (now (tables .entry))
+        (asks (wait all (now (handles .entry)) owner flags pad alert timeout time) nothingLent))
         ≡ sees (r .answer ∷ r .index ∷ r .ticket ∷ 0 ∷ []) nothingLent (now (tables .exit)) ⌝ }
 {
     ntsync::wait_all(tables, handles, owner, alert, flags, pad, timeout, time)
@@ -144,7 +148,8 @@ pub extern "C" fn ntsync_post(
     handle: u32,
     add: u32,
 ) -> Changed
-    ensures { λ r. ⌜ seen (tableStep (now (tables .entry)) (asks (signal (post add) handle) (wakeLent (now (wake .entry)))))
+    ensures { λ r. ⌜ seen (tableStep (now (tables .entry))
+        (asks (signal (post add) handle) (wakeLent (now (wake .entry)))))
         ≡ sees (r .answer ∷ r .previous ∷ 0 ∷ r .woken ∷ []) (wakeLent (now (wake .exit))) (now (tables .exit)) ⌝ }
 {
     ntsync::post(tables, wake, handle, add)
@@ -157,7 +162,8 @@ pub extern "C" fn ntsync_unlock(
     handle: u32,
     owner: u32,
 ) -> Changed
-    ensures { λ r. ⌜ seen (tableStep (now (tables .entry)) (asks (signal (unlock owner) handle) (wakeLent (now (wake .entry)))))
+    ensures { λ r. ⌜ seen (tableStep (now (tables .entry))
+        (asks (signal (unlock owner) handle) (wakeLent (now (wake .entry)))))
         ≡ sees (r .answer ∷ r .previous ∷ 0 ∷ r .woken ∷ []) (wakeLent (now (wake .exit))) (now (tables .exit)) ⌝ }
 {
     ntsync::unlock(tables, wake, handle, owner)
@@ -170,7 +176,8 @@ pub extern "C" fn ntsync_kill_owner(
     handle: u32,
     owner: u32,
 ) -> Changed
-    ensures { λ r. ⌜ seen (tableStep (now (tables .entry)) (asks (signal (kill owner) handle) (wakeLent (now (wake .entry)))))
+    ensures { λ r. ⌜ seen (tableStep (now (tables .entry))
+        (asks (signal (kill owner) handle) (wakeLent (now (wake .entry)))))
         ≡ sees (r .answer ∷ r .previous ∷ 0 ∷ r .woken ∷ []) (wakeLent (now (wake .exit))) (now (tables .exit)) ⌝ }
 {
     ntsync::kill_owner(tables, wake, handle, owner)
@@ -178,7 +185,8 @@ pub extern "C" fn ntsync_kill_owner(
 
 #[no_mangle]
 pub extern "C" fn ntsync_set(tables: &mut [u64], wake: &mut [u64], handle: u32) -> Changed
-    ensures { λ r. ⌜ seen (tableStep (now (tables .entry)) (asks (signal setEvent handle) (wakeLent (now (wake .entry)))))
+    ensures { λ r. ⌜ seen (tableStep (now (tables .entry))
+        (asks (signal setEvent handle) (wakeLent (now (wake .entry)))))
         ≡ sees (r .answer ∷ r .previous ∷ 0 ∷ r .woken ∷ []) (wakeLent (now (wake .exit))) (now (tables .exit)) ⌝ }
 {
     ntsync::set(tables, wake, handle)
@@ -186,7 +194,8 @@ pub extern "C" fn ntsync_set(tables: &mut [u64], wake: &mut [u64], handle: u32) 
 
 #[no_mangle]
 pub extern "C" fn ntsync_pulse(tables: &mut [u64], wake: &mut [u64], handle: u32) -> Changed
-    ensures { λ r. ⌜ seen (tableStep (now (tables .entry)) (asks (signal pulseEvent handle) (wakeLent (now (wake .entry)))))
+    ensures { λ r. ⌜ seen (tableStep (now (tables .entry))
+        (asks (signal pulseEvent handle) (wakeLent (now (wake .entry)))))
         ≡ sees (r .answer ∷ r .previous ∷ 0 ∷ r .woken ∷ []) (wakeLent (now (wake .exit))) (now (tables .exit)) ⌝ }
 {
     ntsync::pulse(tables, wake, handle)

@@ -1,4 +1,4 @@
-use Rattle.ntsync.proofs.Laws.{front-room}
+use Rattle.ntsync_fronts.proofs.Laws.{front-room}
 use Rattle.caller.proofs.Laws.{first-none, first-some}
 use Rattle.model.specs.Calls.{signal, post, wakeLent, asks}
 use Rattle.model.specs.Steps.{Seen}
@@ -11,55 +11,40 @@ use native.Mathlib.Omega.{arith}
 use borrow.Author.Needs.{needs}
 use Rattle.caller.proofs.post_first.Statement.{statement}
 use Rattle.caller.proofs.post_first.Tie as tie
-use Rattle.caller.proofs.post_first.Reads as reads
-use Rattle.caller.proofs.post_first.Lts as lts
-use Rattle.ntsync.proofs.post.Reads as post-reads
 
--- src/lib.rt:15:9
 post-requires : tie.Need-post-requires
 post-requires c κs = search needs
 
--- src/lib.rt:16:20
 cast-end : tie.Need-cast-end
 cast-end c = search needs
 
--- src/lib.rt:16:15
 mul-end : tie.Need-mul-end
 mul-end c = search needs
 
--- src/lib.rt:17:16
 slice-relend-prefix-part : tie.Need-slice-relend-prefix-part
 slice-relend-prefix-part c = let a = c .before .before .before .before .before .before .before .before .before .before .args in front-room (a .tables .now) (asks (signal (post (a .add)) (a .handle)) (wakeLent (a .wake .now))) (c .before .before .before .before .before .post .ensures)
 
--- src/lib.rt:17:9
 slice-aggregate-part : tie.Need-slice-aggregate-part
 slice-aggregate-part c = let a = c .before .before .before .before .before .before .before .before .before .before .before .args in sym (length-take-le (3 * c .before .before .before .before .before .before .post .result .woken) _ (front-room (a .tables .now) (asks (signal (post (a .add)) (a .handle)) (wakeLent (a .wake .now))) (c .before .before .before .before .before .before .post .ensures)))
 
--- src/lib.rt:19:9
 same-length : tie.Need-same-length
 same-length c = search needs
 
--- src/lib.rt:19:9
 same-length-2 : tie.Need-same-length-2
 same-length-2 c = search needs
 
--- src/lib.rt:19:9
 returns : tie.Need-returns
 returns c = let a = c .before .before .before .before .before .before .before .before .before .before .before .before .before .before .args in (first-none (a .tables .now) (asks (signal (post (a .add)) (a .handle)) (wakeLent (a .wake .now))) (c .before .before .before .before .before .before .before .before .before .post .ensures) (c .before .before .if1 .taken), (ap (λ (s : Seen). s .lent .wake) (c .before .before .before .before .before .before .before .before .before .post .ensures) ∙ sym (take-append-drop (3 * c .before .before .before .before .before .before .before .before .before .post .result .woken) _), ap (λ (s : Seen). s .tables) (c .before .before .before .before .before .before .before .before .before .post .ensures)))
 
--- src/lib.rt:21:5
 slice-read-result : tie.Need-slice-read-result
 slice-read-result c = search needs
 
--- src/lib.rt:10:1
 same-length-3 : tie.Need-same-length-3
 same-length-3 c = search needs
 
--- src/lib.rt:10:1
 same-length-4 : tie.Need-same-length-4
 same-length-4 c = search needs
 
--- src/lib.rt:10:1
 returns-2 : tie.Need-returns-2
 returns-2 c = let a = c .before .before .before .before .before .before .before .before .before .before .before .before .before .before .before .args in (first-some (a .tables .now) (asks (signal (post (a .add)) (a .handle)) (wakeLent (a .wake .now))) (c .before .before .before .before .before .before .before .before .before .before .post .ensures), (ap (λ (s : Seen). s .lent .wake) (c .before .before .before .before .before .before .before .before .before .before .post .ensures) ∙ sym (take-append-drop (3 * c .before .before .before .before .before .before .before .before .before .before .post .result .woken) _), ap (λ (s : Seen). s .tables) (c .before .before .before .before .before .before .before .before .before .before .post .ensures)))
 

@@ -6,7 +6,6 @@ use Rattle.examples.proofs.making.init_part.Statement.{statement}
 use Rattle.examples.proofs.making.init_part.Tie as tie
 use Rattle.examples.proofs.making.init_part.Reads as reads
 use Rattle.examples.proofs.making.init_part.Lts as lts
-use Rattle.ntsync.proofs.init.Reads as init-reads
 
 returns : tie.Need-returns
 returns c = search needs

@@ -5,7 +5,6 @@ use Rattle.examples.proofs.queues.create_many.Statement.{statement}
 use Rattle.examples.proofs.queues.create_many.Tie as tie
 use Rattle.examples.proofs.queues.create_many.Reads as reads
 use Rattle.examples.proofs.queues.create_many.Lts as lts
-use Rattle.ntsync.proofs.create_sem.Reads as create-sem-reads
 
 abbrev Inv-loop : tie.InvT-loop
 Inv-loop t₀ n i₀ t i = i ≤ n

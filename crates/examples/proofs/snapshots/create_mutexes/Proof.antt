@@ -5,7 +5,6 @@ use Rattle.examples.proofs.snapshots.create_mutexes.Statement.{statemen
 use Rattle.examples.proofs.snapshots.create_mutexes.Tie as tie
 use Rattle.examples.proofs.snapshots.create_mutexes.Reads as reads
 use Rattle.examples.proofs.snapshots.create_mutexes.Lts as lts
-use Rattle.ntsync.proofs.create_mutex.Reads as create-mutex-reads
 
 abbrev Inv-loop : tie.InvT-loop
 Inv-loop t₀ i₀ t i = i ≤ 127
