@@ -30,6 +30,12 @@ module _ (t : List ℕ) (l : Lent) where
     unfolding createCells
     create-full {p} e q h = rw (e, sym q, le-ltb p objectPlaces h)
 
+  -- where the numbers are refused, the object is not looked at
+  pub create-unseen : (b : Bool) (x : Fields) → createCells b (cond b noFields x) t l ≡ createCells b x t l
+  unfolding createCells
+  create-unseen true x = refl
+  create-unseen false x = refl
+
   -- closing
   module _ (h : ℕ) {b : Bool} (o : b ≡ occupiedAt t h) where
     pub close-none : not b ≡ true → refusedWith 1 t l ≡ closeCells h t l

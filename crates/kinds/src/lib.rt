@@ -3,10 +3,10 @@ ghost use mathlib.Core.Path.{_≡_};
 ghost use mathlib.Core.Bool.{not, cond};
 ghost use lib.Dec.{eqb};
 ghost use Rattle.model.specs.Basics.{bit};
-ghost use Rattle.model.specs.Sizes.{mutexCeiling, word32};
 ghost use Rattle.model.specs.Calls.{aSemaphore, aMutex, anEvent, badNew};
-ghost use Prim.Native.Nat.{_+_};
-ghost use Rattle.cells.specs.Objects.{fields, ifHeld, signaledFields, acquiredFields, abandonedFields, postFields, unlockFields, killFields, switchFields};
+ghost use Rattle.cells.specs.Objects.{fields, noFields, signaledFields, acquiredFields, abandonedFields};
+ghost use Rattle.cells.specs.Objects.{ifHeld, postFields, unlockFields, killFields, switchFields};
+ghost use Rattle.cells.specs.Validity.{validFields};
 ghost use Rattle.cells.specs.Calls.{newFields};
 ghost use Rattle.kinds.specs.Values.{cellsOf, changeOf};
 
@@ -21,13 +21,37 @@ pub struct Object {
     pub attribute: u64,
 }
 
-// What a constructor hands out; where `ok` is false the numbers were refused.
+// What a constructor hands out; where `ok` is false the numbers were refused, and the object is the empty one.
 pub struct Creation {
     pub ok: bool,
     pub object: Object,
 }
 
-// A rule's answer (0 where it holds), and the object's next state.
+impl Creation {
+    fn only_if(ok: bool, object: Object) -> Creation
+        ensures ok { λ r. ⌜ r .ok ≡ ok ⌝ }
+        ensures object { λ r. ⌜ cellsOf (r .object) ≡ cond ok (cellsOf object) noFields ⌝ }
+    {
+        if ok {
+            return Creation { ok, object };
+        }
+        Creation {
+            ok,
+            object: Object::EMPTY,
+        }
+    }
+}
+
+// The answers of the rules.
+const DONE: u32 = 0;
+
+const EINVAL: u32 = 1;
+
+const EPERM: u32 = 2;
+
+const EOVERFLOW: u32 = 3;
+
+// A rule's answer, and the object's next state.
 pub struct Change {
     pub answer: u32,
     pub next: Object,
@@ -39,6 +63,8 @@ pub struct Acquired {
     pub abandoned: bool,
 }
 
+// Each kind has its limits, and one test of its numbers, `valid`: its constructor and the validity check both ask it.
+
 pub struct Semaphore {
     pub count: u64,
     pub max: u64,
@@ -48,22 +74,27 @@ impl Semaphore {
     pub const KIND: u64 = 1;
 
     // The highest maximum: counts have 32 bits.
-    pub const LIMIT: u64 = 4294967295;
+    pub const MAX_COUNT: u64 = 4294967295;
 
-    // Refused where the count exceeds the maximum.
+    // The count does not exceed the maximum.
+    pub fn valid(count: u64, max: u64) -> bool
+        ensures { λ r. ⌜ r ≡ validFields (fields 1 count 0 max) ⌝ }
+    {
+        (count <= max) & (max <= Semaphore::MAX_COUNT)
+    }
+
     pub fn create(count: u32, max: u32) -> Creation
         ensures ok { λ r. ⌜ r .ok ≡ not (badNew aSemaphore count max) ⌝ }
-        ensures object { λ r. ⌜ cellsOf (r .object) ≡ newFields aSemaphore count max ⌝ }
+        ensures object { λ r. ⌜ cellsOf (r .object)
+            ≡ cond (badNew aSemaphore count max) noFields (newFields aSemaphore count max) ⌝ }
     {
         let s = Semaphore {
             count: count as u64,
             max: max as u64,
         };
+        let ok = Semaphore::valid(s.count, s.max);
         let object = s.object();
-        Creation {
-            ok: count <= max,
-            object,
-        }
+        Creation::only_if(ok, object)
     }
 
     pub fn object(self) -> Object
@@ -86,23 +117,40 @@ pub struct Mutex {
 impl Mutex {
     pub const KIND: u64 = 2;
 
-    // A mutex with this count is signaled for nobody (house).
-    pub const CEILING: u64 = 4294967295;
+    // The highest owner number and recursion count: both have 32 bits.
+    pub const MAX_OWNER: u64 = 4294967295;
 
-    // Refused where exactly one of owner and count is 0.
+    pub const MAX_COUNT: u64 = 4294967295;
+
+    // A mutex with this count is signaled for nobody (house).
+    pub const CEILING: u64 = Mutex::MAX_COUNT;
+
+    // The mark of a killed owner's mutex.
+    pub const ABANDONED: u64 = 1;
+
+    // Owned and counted, or neither; an abandoned mutex has no owner.
+    pub fn valid(owner: u64, count: u64, abandoned: u64) -> bool
+        ensures { λ r. ⌜ r ≡ validFields (fields 2 count owner abandoned) ⌝ }
+    {
+        (owner <= Mutex::MAX_OWNER)
+            & (count <= Mutex::MAX_COUNT)
+            & (abandoned <= Mutex::ABANDONED)
+            & ((owner == 0) == (count == 0))
+            & ((abandoned == 0) | (owner == 0))
+    }
+
     pub fn create(owner: u32, count: u32) -> Creation
         ensures ok { λ r. ⌜ r .ok ≡ not (badNew aMutex owner count) ⌝ }
-        ensures object { λ r. ⌜ cellsOf (r .object) ≡ newFields aMutex owner count ⌝ }
+        ensures object { λ r. ⌜ cellsOf (r .object)
+            ≡ cond (badNew aMutex owner count) noFields (newFields aMutex owner count) ⌝ }
     {
         let m = Mutex {
             owner: owner as u64,
             count: count as u64,
         };
+        let ok = Mutex::valid(m.owner, m.count, 0);
         let object = m.object();
-        Creation {
-            ok: zero_flag(owner) == zero_flag(count),
-            object,
-        }
+        Creation::only_if(ok, object)
     }
 
     pub fn object(self) -> Object
@@ -125,17 +173,30 @@ pub struct Event {
 impl Event {
     pub const KIND: u64 = 3;
 
-    // A flag is 0 or 1; any number but 0 means 1, so nothing is refused.
+    // The flags of an event that is set, and of one with manual reset; else they are 0.
+    pub const SET: u64 = 1;
+
+    pub const MANUAL: u64 = 1;
+
+    pub fn valid(signaled: u64, manual: u64) -> bool
+        ensures { λ r. ⌜ r ≡ validFields (fields 3 signaled 0 manual) ⌝ }
+    {
+        (signaled <= Event::SET) & (manual <= Event::MANUAL)
+    }
+
+    // Any number but 0 means 1, so nothing is refused.
     pub fn create(signaled: u32, manual: u32) -> Creation
         ensures ok { λ r. ⌜ r .ok ≡ not (badNew anEvent signaled manual) ⌝ }
-        ensures object { λ r. ⌜ cellsOf (r .object) ≡ newFields anEvent signaled manual ⌝ }
+        ensures object { λ r. ⌜ cellsOf (r .object)
+            ≡ cond (badNew anEvent signaled manual) noFields (newFields anEvent signaled manual) ⌝ }
     {
         let e = Event {
             signaled: flag(signaled),
             manual: flag(manual),
         };
+        let ok = Event::valid(e.signaled, e.manual);
         let object = e.object();
-        Creation { ok: true, object }
+        Creation::only_if(ok, object)
     }
 
     pub fn object(self) -> Object
@@ -150,16 +211,6 @@ impl Event {
     }
 }
 
-// 1 for 0, 0 for any other number.
-fn zero_flag(n: u32) -> u64
-    ensures { λ r. ⌜ r ≡ bit (eqb n 0) ⌝ }
-{
-    if n == 0 {
-        return 1;
-    }
-    0
-}
-
 // 0 for 0, 1 for any other number.
 fn flag(n: u32) -> u64
     ensures { λ r. ⌜ r ≡ bit (not (eqb n 0)) ⌝ }
@@ -171,6 +222,14 @@ fn flag(n: u32) -> u64
 }
 
 impl Object {
+    // What an empty place holds.
+    pub const EMPTY: Object = Object {
+        kind: 0,
+        count: 0,
+        owner: 0,
+        attribute: 0,
+    };
+
     // Signaled for the asking owner.
     pub fn signaled(self, asking: u64) -> bool
         ensures { λ r. ⌜ r ≡ signaledFields asking (cellsOf self) ⌝ }
@@ -256,24 +315,24 @@ impl Object {
         let max = self.attribute;
         if kind != Semaphore::KIND {
             return Change {
-                answer: 1,
+                answer: EINVAL,
                 next: self,
             };
         }
         if max < count {
             return Change {
-                answer: 3,
+                answer: EOVERFLOW,
                 next: self,
             };
         }
         if max - count < add {
             return Change {
-                answer: 3,
+                answer: EOVERFLOW,
                 next: self,
             };
         }
         Change {
-            answer: 0,
+            answer: DONE,
             next: Object {
                 kind: Semaphore::KIND,
                 count: count + add,
@@ -290,29 +349,29 @@ impl Object {
         let kind = self.kind;
         let owner = self.owner;
         if kind != Mutex::KIND {
-            return 1;
+            return EINVAL;
         }
         if asking == 0 {
-            return 1;
+            return EINVAL;
         }
         if owner != asking {
-            return 2;
+            return EPERM;
         }
-        0
+        DONE
     }
 
     pub fn unlock(self, asking: u64) -> Change
         ensures { λ r. ⌜ changeOf r ≡ unlockFields asking (cellsOf self) ⌝ }
     {
         let answer = self.held_by(asking);
-        if answer != 0 {
+        if answer != DONE {
             return Change { answer, next: self };
         }
         let count = self.count;
         let owner = self.owner;
         if count <= 1 {
             return Change {
-                answer: 0,
+                answer: DONE,
                 next: Object {
                     kind: Mutex::KIND,
                     count: 0,
@@ -322,7 +381,7 @@ impl Object {
             };
         }
         Change {
-            answer: 0,
+            answer: DONE,
             next: Object {
                 kind: Mutex::KIND,
                 count: count - 1,
@@ -336,16 +395,16 @@ impl Object {
         ensures { λ r. ⌜ changeOf r ≡ killFields asking (cellsOf self) ⌝ }
     {
         let answer = self.held_by(asking);
-        if answer != 0 {
+        if answer != DONE {
             return Change { answer, next: self };
         }
         Change {
-            answer: 0,
+            answer: DONE,
             next: Object {
                 kind: Mutex::KIND,
                 count: 0,
                 owner: 0,
-                attribute: 1,
+                attribute: Mutex::ABANDONED,
             },
         }
     }
@@ -357,12 +416,12 @@ impl Object {
         let kind = self.kind;
         if kind != Event::KIND {
             return Change {
-                answer: 1,
+                answer: EINVAL,
                 next: self,
             };
         }
         Change {
-            answer: 0,
+            answer: DONE,
             next: Object {
                 kind: Event::KIND,
                 count: to,
@@ -381,17 +440,4 @@ fn left_owner(count: u64, owner: u64) -> u64
         return 0;
     }
     owner
-}
-
-// The limits, tied to the numbers of the meaning.
-pub fn semaphore_limit() -> u64
-    ensures { λ r. ⌜ r + 1 ≡ word32 ⌝ }
-{
-    Semaphore::LIMIT
-}
-
-pub fn mutex_ceiling() -> u64
-    ensures { λ r. ⌜ r ≡ mutexCeiling ⌝ }
-{
-    Mutex::CEILING
 }

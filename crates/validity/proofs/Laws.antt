@@ -1,9 +1,9 @@
 -- What the check's definitions come to on each way through the code.
 use Prim.Native.Nat.{ℕ}
 use mathlib.Core.Path.{_≡_, refl, sym, ap, _∙_}
-use mathlib.Core.Bool.{Bool, true, false, not, _&&_, _||_, cond, and-assoc, and-true, and-false, Bool·beq}
+use mathlib.Core.Bool.{Bool, true, false, not, _&&_, _||_, cond, and-assoc, and-true, and-false}
 use mathlib.Core.List.{List, [], _∷_, _++_}
-use Rattle.model.specs.Basics.{bit, allOf}
+use Rattle.model.specs.Basics.{allOf}
 use lib.Dec.{eqb, ltb, leb}
 use lib.ListN.{length}
 use Rattle.model.proofs.Logic.{byBool}
@@ -11,35 +11,20 @@ use borrow.Author.Tests.{eq-eqb, ne-eqb}
 use Rattle.model.specs.Sizes.{objectPlaces, waitPlaces, maxListed, word32}
 use Rattle.model.specs.Layout.{tableLength, inWait}
 use Rattle.cells.specs.Fold.{allBelow}
-use Rattle.cells.specs.Objects.{Fields, fieldsAt, named}
+use Rattle.cells.specs.Objects.{Fields, fields, fieldsAt, named}
 use Rattle.cells.specs.Waits.{nextTicket, ticketAt, modeAt, ownerAt, clockAt, countAt, alertAt, listOf, has}
+use Rattle.kinds.proofs.Laws.{joinedLeft, all-left, highest, has-32-bits}
 use Rattle.cells.specs.Validity.{validFields, occupiedAt, eventAt, tooFew, occupiedList, repeatedList, properList, properAlert, unusedZero, aloneAt, headerTests, namesTests, validQueued, validFree, validPlace, validCells}
-
--- tests joined one after another
-abbrev pub joinedLeft : Bool → List Bool → Bool
-joinedLeft a [] = a
-joinedLeft a (b ∷ bs) = joinedLeft (a && b) bs
-
-pub all-left : (a : Bool) (bs : List Bool) → joinedLeft a bs ≡ allOf (a ∷ bs)
-unfolding allOf
-all-left a [] = sym (and-true a)
-all-left a (b ∷ bs) = all-left (a && b) bs ∙ and-assoc a b (allOf bs)
 
 pub all-joined : (xs ys : List Bool) → (allOf xs && allOf ys) ≡ allOf (xs ++ ys)
 unfolding allOf
 all-joined [] ys = refl
 all-joined (a ∷ xs) ys = and-assoc a (allOf xs) (allOf ys) ∙ ap (λ (b : Bool). a && b) (all-joined xs ys)
 
-pub same-bits : (a b : Bool) → Bool·beq a b ≡ eqb (bit a) (bit b)
-same-bits true true = refl
-same-bits true false = refl
-same-bits false true = refl
-same-bits false false = refl
-
 -- a header, from what was read of it
 pub header-valid : (t : List ℕ) (p : ℕ) {ticket next mode owner clock n : ℕ} {alone few : Bool} → ticket ≡ ticketAt t p → next ≡ nextTicket t → alone ≡ aloneAt t p → mode ≡ modeAt t p → owner ≡ ownerAt t p → clock ≡ clockAt t p → n ≡ inWait t p 5 → few ≡ tooFew mode n
-    → joinedLeft (ltb ticket next) (alone ∷ leb mode 1 ∷ ltb 0 owner ∷ ltb owner word32 ∷ leb clock 1 ∷ not few ∷ leb n maxListed ∷ []) ≡ allOf (headerTests t p)
-header-valid t p e₁ e₂ e₃ e₄ e₅ e₆ e₇ e₈ = rw (e₈, e₁, e₂, e₃, e₄, e₅, e₆, e₇) (all-left (ltb (ticketAt t p) (nextTicket t)) (aloneAt t p ∷ leb (modeAt t p) 1 ∷ ltb 0 (ownerAt t p) ∷ ltb (ownerAt t p) word32 ∷ leb (clockAt t p) 1 ∷ not (tooFew (modeAt t p) (inWait t p 5)) ∷ leb (inWait t p 5) maxListed ∷ []))
+    → joinedLeft (ltb ticket next) (alone ∷ leb mode 1 ∷ ltb 0 owner ∷ leb owner highest ∷ leb clock 1 ∷ not few ∷ leb n maxListed ∷ []) ≡ allOf (headerTests t p)
+header-valid t p e₁ e₂ e₃ e₄ e₅ e₆ e₇ e₈ = rw (e₈, e₁, e₂, e₃, e₄, e₅, has-32-bits (ownerAt t p), e₆, e₇) (all-left (ltb (ticketAt t p) (nextTicket t)) (aloneAt t p ∷ leb (modeAt t p) 1 ∷ ltb 0 (ownerAt t p) ∷ ltb (ownerAt t p) word32 ∷ leb (clockAt t p) 1 ∷ not (tooFew (modeAt t p) (inWait t p 5)) ∷ leb (inWait t p 5) maxListed ∷ []))
 
 pub place-valid : (t : List ℕ) (p : ℕ) {ticket : ℕ} {header names : Bool} → ticket ≡ ticketAt t p → (ticket ≡ 0 → ⊥) → header ≡ allOf (headerTests t p) → names ≡ allOf (namesTests t p) → (header && names) ≡ validPlace t p
 unfolding validPlace validQueued
@@ -59,24 +44,27 @@ pub whole-valid : (t : List ℕ) {next : ℕ} {objects waits : Bool} → length 
 unfolding validCells allOf
 whole-valid t l a b c = rw (a, b, c, eq-eqb (length t) tableLength l) (all-left (ltb 0 (nextTicket t)) (allBelow (λ p. validFields (fieldsAt t p)) objectPlaces ∷ allBelow (validPlace t) waitPlaces ∷ []))
 
--- an object of each kind
+-- an object of each kind, from what its kind answers
+last-joined : (a b c : Bool) → ((a && (b && true)) && c) ≡ (a && (b && (c && true)))
+last-joined a b c = simp (and-assoc, and-true)
+
 module _ (x : Fields) where
   pub empty-valid : x .kind ≡ 0 → joinedLeft (eqb (x .count) 0) (eqb (x .owner) 0 ∷ eqb (x .attribute) 0 ∷ []) ≡ validFields x
   unfolding validFields
   empty-valid e = rw e (all-left (eqb (x .count) 0) (eqb (x .owner) 0 ∷ eqb (x .attribute) 0 ∷ []))
 
-  pub semaphore-valid : x .kind ≡ 1 → joinedLeft (leb (x .count) (x .attribute)) (ltb (x .attribute) word32 ∷ eqb (x .owner) 0 ∷ []) ≡ validFields x
-  unfolding validFields
-  semaphore-valid e = rw e (all-left (leb (x .count) (x .attribute)) (ltb (x .attribute) word32 ∷ eqb (x .owner) 0 ∷ []))
+  module _ {v : Bool} where
+    pub semaphore-valid : x .kind ≡ 1 → v ≡ validFields (fields 1 (x .count) 0 (x .attribute)) → (v && eqb (x .owner) 0) ≡ validFields x
+    unfolding validFields allOf
+    semaphore-valid e q = rw (e, q) (last-joined (leb (x .count) (x .attribute)) (ltb (x .attribute) word32) (eqb (x .owner) 0))
 
-  pub mutex-valid : x .kind ≡ 2 → joinedLeft (ltb (x .owner) word32) (ltb (x .count) word32 ∷ leb (x .attribute) 1 ∷ Bool·beq (eqb (x .owner) 0) (eqb (x .count) 0) ∷ (eqb (x .attribute) 0 || eqb (x .owner) 0) ∷ []) ≡ validFields x
-  unfolding validFields
-  mutex-valid e = rw (e, same-bits (eqb (x .owner) 0) (eqb (x .count) 0))
-      (all-left (ltb (x .owner) word32) (ltb (x .count) word32 ∷ leb (x .attribute) 1 ∷ eqb (bit (eqb (x .owner) 0)) (bit (eqb (x .count) 0)) ∷ (eqb (x .attribute) 0 || eqb (x .owner) 0) ∷ []))
+    pub mutex-valid : x .kind ≡ 2 → v ≡ validFields (fields 2 (x .count) (x .owner) (x .attribute)) → v ≡ validFields x
+    unfolding validFields
+    mutex-valid e q = rw e q
 
-  pub event-valid : x .kind ≡ 3 → joinedLeft (leb (x .count) 1) (leb (x .attribute) 1 ∷ eqb (x .owner) 0 ∷ []) ≡ validFields x
-  unfolding validFields
-  event-valid e = rw e (all-left (leb (x .count) 1) (leb (x .attribute) 1 ∷ eqb (x .owner) 0 ∷ []))
+    pub event-valid : x .kind ≡ 3 → v ≡ validFields (fields 3 (x .count) 0 (x .attribute)) → (v && eqb (x .owner) 0) ≡ validFields x
+    unfolding validFields allOf
+    event-valid e q = rw (e, q) (last-joined (leb (x .count) 1) (leb (x .attribute) 1) (eqb (x .owner) 0))
 
   pub no-kind : (x .kind ≡ 0 → ⊥) → (x .kind ≡ 1 → ⊥) → (x .kind ≡ 2 → ⊥) → (x .kind ≡ 3 → ⊥) → false ≡ validFields x
   unfolding validFields

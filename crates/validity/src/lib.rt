@@ -15,14 +15,13 @@ use kinds::Mutex;
 use kinds::Object;
 use kinds::Semaphore;
 
-const WORD32: u64 = 4294967296;
-
 // Flags for the numbers below it, among them every handle.
 const MARKS: usize = 2 * tables::OBJECT_PLACES;
 
 // ---- objects
 
-pub fn valid_object(o: Object) -> bool
+// Each kind answers for its numbers; the cells that an object has no use for are 0.
+fn valid_object(o: Object) -> bool
     ensures { λ r. ⌜ r ≡ validFields (cellsOf o) ⌝ }
 {
     let kind = o.kind;
@@ -33,17 +32,13 @@ pub fn valid_object(o: Object) -> bool
         return (count == 0) & (owner == 0) & (attribute == 0);
     }
     if kind == Semaphore::KIND {
-        return (count <= attribute) & (attribute < WORD32) & (owner == 0);
+        return Semaphore::valid(count, attribute) & (owner == 0);
     }
     if kind == Mutex::KIND {
-        return (owner < WORD32)
-            & (count < WORD32)
-            & (attribute <= 1)
-            & ((owner == 0) == (count == 0))
-            & ((attribute == 0) | (owner == 0));
+        return Mutex::valid(owner, count, attribute);
     }
     if kind == Event::KIND {
-        return (count <= 1) & (attribute <= 1) & (owner == 0);
+        return Event::valid(count, attribute) & (owner == 0);
     }
     false
 }
@@ -157,6 +152,7 @@ fn alone(t: &[u64], p: usize) -> bool
     ok
 }
 
+// A wait's owner can come to own a mutex.
 fn valid_header(t: &[u64], p: usize) -> bool
     requires { ⌜ (p < waitPlaces) × (length (now t) ≡ tableLength) ⌝ }
     ensures { λ r. ⌜ r ≡ allOf (headerTests (now (t .entry)) p) ⌝ }
@@ -173,7 +169,7 @@ fn valid_header(t: &[u64], p: usize) -> bool
         & alone
         & (mode <= 1)
         & (0 < owner)
-        & (owner < WORD32)
+        & (owner <= Mutex::MAX_OWNER)
         & (clock <= 1)
         & !few
         & (n <= (tables::MAX_LISTED as u64))
