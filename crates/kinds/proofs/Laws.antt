@@ -4,21 +4,19 @@ use mathlib.Core.Path.{_≡_, refl, ap, sym, _∙_}
 use mathlib.Core.Bool.{Bool, true, false, not, _&&_, _||_, cond, and-assoc, and-true, Bool·beq}
 use mathlib.Core.List.{List, [], _∷_}
 use native.Mathlib.Omega.{arith}
-use borrow.Author.Tests.{lt-ltb, le-ltb, eq-eqb, ne-eqb}
+use borrow.Author.Tests.{lt-ltb, le-ltb, ne-eqb, leb-true, leb-false}
 use lib.Dec.{eqb, ltb, leb, leb·suc-suc}
 use Rattle.model.specs.Basics.{bit, allOf}
 use Rattle.model.specs.Sizes.{mutexCeiling, word32}
 use Rattle.model.specs.Calls.{Kind, aSemaphore, aMutex, anEvent, badNew}
-use Rattle.model.proofs.Logic.{byBool, clash, same-tests, not-twice}
-use Rattle.cells.specs.Objects.{Fields, fields, noFields, Changed, changed, acquiredFields, postFields, ifHeld, unlockFields, killFields}
+use Rattle.model.proofs.Logic.{byBool, not-twice}
+use Rattle.cells.specs.Objects.{Fields, fields, noFields, Changed, changed, acquiredFields, postFields, ifHeld, unlockFields}
 use Rattle.cells.specs.Validity.{validFields}
 use Rattle.cells.specs.Calls.{newFields}
 
 -- a test and its converse
-pub not-more : (a b : ℕ) → leb a b ≡ not (ltb b a)
-not-more a b = byBool (ltb b a)
-    (λ y. rw y (byBool (leb a b) (λ z. absurd (let p = borrow.Author.Tests.ltb-true b a y in let q = borrow.Author.Tests.leb-true a b z in let w : ⊥ = omega arith in w)) (λ f. f)))
-    (λ n. rw n (borrow.Author.Tests.le-leb a b (borrow.Author.Tests.ltb-false b a n)))
+not-more : (a b : ℕ) → leb a b ≡ not (ltb b a)
+not-more a b = byBool (leb a b) (λ y. rw (y, le-ltb b a (leb-true a b y))) (λ n. rw (n, lt-ltb b a (leb-false a b n)))
 
 -- tests joined one after another
 abbrev pub joinedLeft : Bool → List Bool → Bool

@@ -45,9 +45,6 @@ unfolding validCells allOf
 whole-valid t l a b c = rw (a, b, c, eq-eqb (length t) tableLength l) (all-left (ltb 0 (nextTicket t)) (allBelow (λ p. validFields (fieldsAt t p)) objectPlaces ∷ allBelow (validPlace t) waitPlaces ∷ []))
 
 -- an object of each kind, from what its kind answers
-last-joined : (a b c : Bool) → ((a && (b && true)) && c) ≡ (a && (b && (c && true)))
-last-joined a b c = simp (and-assoc, and-true)
-
 module _ (x : Fields) where
   pub empty-valid : x .kind ≡ 0 → joinedLeft (eqb (x .count) 0) (eqb (x .owner) 0 ∷ eqb (x .attribute) 0 ∷ []) ≡ validFields x
   unfolding validFields
@@ -56,7 +53,7 @@ module _ (x : Fields) where
   module _ {v : Bool} where
     pub semaphore-valid : x .kind ≡ 1 → v ≡ validFields (fields 1 (x .count) 0 (x .attribute)) → (v && eqb (x .owner) 0) ≡ validFields x
     unfolding validFields allOf
-    semaphore-valid e q = rw (e, q) (last-joined (leb (x .count) (x .attribute)) (ltb (x .attribute) word32) (eqb (x .owner) 0))
+    semaphore-valid e q = rw (e, q) (simp (and-assoc, and-true))
 
     pub mutex-valid : x .kind ≡ 2 → v ≡ validFields (fields 2 (x .count) (x .owner) (x .attribute)) → v ≡ validFields x
     unfolding validFields
@@ -64,7 +61,7 @@ module _ (x : Fields) where
 
     pub event-valid : x .kind ≡ 3 → v ≡ validFields (fields 3 (x .count) 0 (x .attribute)) → (v && eqb (x .owner) 0) ≡ validFields x
     unfolding validFields allOf
-    event-valid e q = rw (e, q) (last-joined (leb (x .count) 1) (leb (x .attribute) 1) (eqb (x .owner) 0))
+    event-valid e q = rw (e, q) (simp (and-assoc, and-true))
 
   pub no-kind : (x .kind ≡ 0 → ⊥) → (x .kind ≡ 1 → ⊥) → (x .kind ≡ 2 → ⊥) → (x .kind ≡ 3 → ⊥) → false ≡ validFields x
   unfolding validFields

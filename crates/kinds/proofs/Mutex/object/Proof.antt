@@ -1,9 +1,0 @@
-use mathlib.Core.Path.{refl}
-use Rattle.kinds.proofs.Mutex.object.Statement.{statement}
-use Rattle.kinds.proofs.Mutex.object.Tie as tie
-
-returns : tie.Need-returns
-returns c = refl
-
-pub object-spec : {M : Type 1} → statement M
-object-spec = tie.close (tie.spec returns)
