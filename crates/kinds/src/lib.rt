@@ -97,7 +97,7 @@ impl Semaphore {
         Creation::only_if(ok, object)
     }
 
-    pub fn object(self) -> Object
+    fn object(self) -> Object
         ensures { λ r. ⌜ cellsOf r ≡ newFields aSemaphore (self .count) (self .max) ⌝ }
     {
         Object {
@@ -128,7 +128,7 @@ impl Mutex {
     // The mark of a killed owner's mutex.
     pub const ABANDONED: u64 = 1;
 
-    // Owned and counted, or neither; an abandoned mutex has no owner.
+    // Owner and count are both 0 or neither is; an abandoned mutex has no owner.
     pub fn valid(owner: u64, count: u64, abandoned: u64) -> bool
         ensures { λ r. ⌜ r ≡ validFields (fields 2 count owner abandoned) ⌝ }
     {
@@ -153,7 +153,7 @@ impl Mutex {
         Creation::only_if(ok, object)
     }
 
-    pub fn object(self) -> Object
+    fn object(self) -> Object
         ensures { λ r. ⌜ cellsOf r ≡ newFields aMutex (self .owner) (self .count) ⌝ }
     {
         Object {
@@ -199,7 +199,7 @@ impl Event {
         Creation::only_if(ok, object)
     }
 
-    pub fn object(self) -> Object
+    fn object(self) -> Object
         ensures { λ r. ⌜ cellsOf r ≡ fields 3 (self .signaled) 0 (self .manual) ⌝ }
     {
         Object {
