@@ -1,0 +1,6 @@
+// Snapshots.
+mod snapshots;
+
+pub fn cases() {
+    snapshots::cases();
+}
