@@ -3,12 +3,9 @@
 
 #[path = "../rust/src/ffi.rs"]
 mod ffi;
-#[path = "../rust/src/types.rs"]
-mod types;
 
 use ffi::*;
 use std::mem::{offset_of, size_of};
-use types::Answer;
 
 macro_rules! layout {
     ($name:literal, $type:ty, $($field:ident),+) => {
@@ -43,24 +40,19 @@ fn sizes() {
 }
 
 fn answers() {
-    let names = [
-        ("DONE", Answer::Done),
-        ("EINVAL", Answer::Invalid),
-        ("EPERM", Answer::NotOwner),
-        ("EOVERFLOW", Answer::Overflow),
-        ("EOWNERDEAD", Answer::OwnerDead),
-        ("ETIMEDOUT", Answer::TimedOut),
-        ("EINTR", Answer::Interrupted),
-        ("NO_ROOM", Answer::NoRoom),
-        ("TICKETS_SPENT", Answer::TicketsSpent),
-        ("CORRUPT", Answer::Corrupt),
-        ("BUSY", Answer::Busy),
-        ("QUEUED", Answer::Queued),
-        ("LIST_SHORT", Answer::ListShort),
-    ];
-    for (name, answer) in names {
-        println!("NTSYNC_{name} {}", answer.number());
-    }
+    println!("NTSYNC_DONE {DONE}");
+    println!("NTSYNC_EINVAL {EINVAL}");
+    println!("NTSYNC_EPERM {EPERM}");
+    println!("NTSYNC_EOVERFLOW {EOVERFLOW}");
+    println!("NTSYNC_EOWNERDEAD {EOWNERDEAD}");
+    println!("NTSYNC_ETIMEDOUT {ETIMEDOUT}");
+    println!("NTSYNC_EINTR {EINTR}");
+    println!("NTSYNC_NO_ROOM {NO_ROOM}");
+    println!("NTSYNC_TICKETS_SPENT {TICKETS_SPENT}");
+    println!("NTSYNC_CORRUPT {CORRUPT}");
+    println!("NTSYNC_BUSY {BUSY}");
+    println!("NTSYNC_QUEUED {QUEUED}");
+    println!("NTSYNC_LIST_SHORT {LIST_SHORT}");
 }
 
 fn created(call: &str, r: Created) {

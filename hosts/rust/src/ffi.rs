@@ -23,6 +23,21 @@ pub const REALTIME: u32 = 1;
 /// A timeout that no time reaches.
 pub const NEVER: u64 = u64::MAX;
 
+// The answers.
+pub const DONE: u32 = 0;
+pub const EINVAL: u32 = 1;
+pub const EPERM: u32 = 2;
+pub const EOVERFLOW: u32 = 3;
+pub const EOWNERDEAD: u32 = 4;
+pub const ETIMEDOUT: u32 = 5;
+pub const EINTR: u32 = 6;
+pub const NO_ROOM: u32 = 7;
+pub const TICKETS_SPENT: u32 = 8;
+pub const CORRUPT: u32 = 9;
+pub const BUSY: u32 = 10;
+pub const QUEUED: u32 = 11;
+pub const LIST_SHORT: u32 = 12;
+
 #[repr(C)]
 pub struct Created {
     pub answer: u32,
@@ -71,7 +86,7 @@ pub struct Written {
 }
 
 #[rustfmt::skip] // one declaration a line, as in the header's page
-extern "C" {
+unsafe extern "C" {
     pub fn ntsync_version() -> u32;
     pub fn ntsync_init(tables: *mut u64, cells: usize) -> u32;
     pub fn ntsync_create_sem(tables: *mut u64, cells: usize, count: u32, max: u32) -> Created;

@@ -1,10 +1,8 @@
-//! What the safe calls can't ask: other lengths than theirs, a clock that is none. Nothing may be altered.
+//! What the safe calls can't ask: other lengths than theirs, flags, pads and clocks that are none. Nothing may be altered.
 
-use crate::ffi;
-
-const CORRUPT: u32 = 9;
-const LIST_SHORT: u32 = 12;
-const INVALID: u32 = 1;
+use crate::ffi::{self, CORRUPT, EINVAL, LIST_SHORT};
+use std::vec;
+use std::vec::Vec;
 
 /// In every cell and byte that must be left.
 const UNTOUCHED: u64 = 77;
@@ -32,7 +30,8 @@ fn a_short_wake_list_is_refused_before_a_bad_argument() {
     for length in [0, 95] {
         let (mut cells, mut wake) = (before.clone(), vec![UNTOUCHED; length]);
         let (c, w) = (cells.as_mut_ptr(), wake.as_mut_ptr());
-        // SAFETY: cells and wake list are apart and lent with their numbers.
+        // SAFETY, for all six: cells and wake list are apart and lent with their numbers.
+        #[expect(clippy::multiple_unsafe_ops_per_block, clippy::undocumented_unsafe_blocks)]
         let answers = unsafe {
             [
                 ffi::ntsync_post(c, ffi::CELLS, w, length, 1, 1).answer,
@@ -55,10 +54,27 @@ fn an_unknown_clock_is_refused() {
     for clock in [2, u32::MAX] {
         // SAFETY: cells and wake list are apart and lent with their numbers.
         let r = unsafe { ffi::ntsync_expire(cells.as_mut_ptr(), cells.len(), wake.as_mut_ptr(), wake.len(), clock, 0) };
-        assert_eq!((r.answer, r.previous, r.woken), (INVALID, 0, 0));
+        assert_eq!((r.answer, r.previous, r.woken), (EINVAL, 0, 0));
     }
     assert_eq!(cells, made());
     assert_eq!(wake, [UNTOUCHED; ffi::WAKE_CELLS]);
+}
+
+#[test]
+fn unknown_flags_and_pads_are_refused() {
+    let (mut cells, list) = (made(), [1]);
+    // SAFETY: the cells are lent with their number.
+    let created = unsafe { ffi::ntsync_create_event(cells.as_mut_ptr(), cells.len(), 1, 1) };
+    assert_eq!((created.answer, created.handle), (0, list[0]));
+    let before = cells.clone();
+    for wait in [ffi::ntsync_wait_any, ffi::ntsync_wait_all] {
+        for (flags, pad) in [(2, 0), (u32::MAX, 0), (0, 1)] {
+            // SAFETY: cells and list are apart and lent with their numbers.
+            let r = unsafe { wait(cells.as_mut_ptr(), cells.len(), list.as_ptr(), 1, 7, 0, flags, pad, 1, 0) };
+            assert_eq!((r.answer, r.index, r.ticket), (EINVAL, 0, 0));
+        }
+    }
+    assert_eq!(cells, before);
 }
 
 #[test]

@@ -2,35 +2,63 @@
 
 mod calls;
 mod lengths;
+mod lent;
 mod limits;
 mod readings;
 mod refusals;
+pub mod version;
 
-use crate::{Answer, Tables, Wait, Waited, Woken};
+use crate::{Changed, Handle, Outcome, Owner, Refusal, Tables, Ticket, Wait, Waited, WakeList, WokenWaits};
+use std::vec::Vec;
 
-const SERVED: Result<Waited, Answer> = Ok(Waited::Served { index: 0, owner_dead: false });
+const SERVED: Result<Waited, Refusal> = served(0);
 
-/// Ticket, answer and index of each woken wait.
-fn records(woken: &[Woken]) -> Vec<(u64, Answer, usize)> {
-    woken.iter().map(|w| (w.ticket(), w.answer(), w.index())).collect()
+const fn served(index: usize) -> Result<Waited, Refusal> {
+    Ok(Waited::Over(Outcome::Served { index, owner_dead: false }))
 }
 
-fn queued(ticket: u64) -> Result<Waited, Answer> {
-    Ok(Waited::Queued { ticket })
+const fn queued(ticket: u64) -> Result<Waited, Refusal> {
+    Ok(Waited::Queued(Ticket(ticket)))
+}
+
+/// A record of a wait that was served.
+const fn woken(ticket: u64, index: usize) -> (u64, Outcome) {
+    (ticket, Outcome::Served { index, owner_dead: false })
+}
+
+/// Ticket and outcome of each woken wait.
+fn records(woken: WokenWaits<'_>) -> Vec<(u64, Outcome)> {
+    woken.iter().map(|w| (w.ticket.0, w.outcome)).collect()
+}
+
+/// What was before, and the records.
+fn change<Before>(changed: Changed<'_, Before>) -> (Before, Vec<(u64, Outcome)>) {
+    (changed.previous, records(changed.woken))
+}
+
+/// Empty tables and a wake list.
+fn empty() -> (Tables, WakeList) {
+    (Tables::new(), WakeList::new())
 }
 
 /// Owner 7 and 8 are queued on the object for good, tickets 1 and 2.
-fn two_waits(tables: &mut Tables, handle: u32) {
-    assert_eq!(tables.wait_any(&Wait::new(&[handle], 7)), queued(1));
-    assert_eq!(tables.wait_any(&Wait::new(&[handle], 8)), queued(2));
+fn two_waits(tables: &mut Tables, object: Handle) {
+    assert_eq!(tables.wait_any(Wait::new(&[object], Owner(7))), queued(1));
+    assert_eq!(tables.wait_any(Wait::new(&[object], Owner(8))), queued(2));
 }
 
-/// The call is refused so, and no cell is altered.
-fn refused<T>(tables: &mut Tables, answer: Answer, call: impl FnOnce(&mut Tables) -> Result<T, Answer>) {
+/// The call is refused so, and no cell of the tables or the wake list is altered.
+fn refused<T>(
+    tables: &mut Tables,
+    refusal: Refusal,
+    call: impl FnOnce(&mut Tables, &mut WakeList) -> Result<T, Refusal>,
+) {
     let before = tables.clone();
-    match call(tables) {
-        Ok(_) => panic!("not refused; {answer} was due"),
-        Err(got) => assert_eq!(got, answer),
+    let mut wake = WakeList { cells: [77; crate::ffi::WAKE_CELLS] };
+    match call(tables, &mut wake) {
+        Ok(_) => panic!("not refused; {refusal} was due"),
+        Err(got) => assert_eq!(got, refusal),
     }
-    assert!(*tables == before, "a refusal altered the tables");
+    assert!(tables.cells() == before.cells(), "a refusal altered the tables");
+    assert!(wake.cells.iter().all(|&cell| cell == 77), "a refusal altered the wake list");
 }

@@ -1,107 +1,110 @@
 //! Each refusal, and that it alters nothing.
 
-use super::{queued, refused};
-use crate::{Answer, Clock, Tables, Wait, CELLS, NEVER};
+use super::{empty, queued, refused};
+use crate::{CELLS, Clock, Handle, Now, Outcome, Owner, Refusal, SNAPSHOT_BYTES, Tables, Ticket, Wait};
 
-/// Handles: 1 semaphore 1 of 3, 2 mutex of owner 5, 3 unset event; 4 is empty.
+const SEM: Handle = Handle(1);
+const LOCK: Handle = Handle(2);
+const EVENT: Handle = Handle(3);
+const NONE: Handle = Handle(4);
+
+/// A semaphore 1 of 3, a mutex of owner 5, an unset event.
 fn three_objects() -> Tables {
-    let mut tables = Tables::new();
-    tables.create_sem(1, 3).unwrap();
-    tables.create_mutex(5, 1).unwrap();
-    tables.create_event(false, false).unwrap();
+    let (mut tables, _) = empty();
+    assert_eq!(tables.create_sem(1, 3), Ok(SEM));
+    assert_eq!(tables.create_mutex(Owner(5), 1), Ok(LOCK));
+    assert_eq!(tables.create_event(false, false), Ok(EVENT));
     tables
 }
 
 #[test]
 fn create_refuses_numbers_that_do_not_fit() {
-    let mut tables = Tables::new();
-    refused(&mut tables, Answer::Invalid, |t| t.create_sem(2, 1));
-    refused(&mut tables, Answer::Invalid, |t| t.create_mutex(5, 0));
-    refused(&mut tables, Answer::Invalid, |t| t.create_mutex(0, 1));
+    let (mut tables, _) = empty();
+    refused(&mut tables, Refusal::Invalid, |t, _| t.create_sem(2, 1));
+    refused(&mut tables, Refusal::Invalid, |t, _| t.create_mutex(Owner(5), 0));
+    refused(&mut tables, Refusal::Invalid, |t, _| t.create_mutex(Owner::NOBODY, 1));
 }
 
 #[test]
 fn no_handle_but_an_objects_is_taken() {
     let mut tables = three_objects();
-    for handle in [0, 4, 128, 129, u32::MAX] {
-        refused(&mut tables, Answer::Invalid, |t| t.close(handle));
-        refused(&mut tables, Answer::Invalid, |t| t.wait_any(&Wait::new(&[1, handle], 7)));
-        refused(&mut tables, Answer::Invalid, |t| t.wait_all(&Wait::new(&[1, handle], 7)));
-        every_kind(&mut tables, handle, 0);
+    for handle in [Handle(0), NONE, Handle(128), Handle(129), Handle(u32::MAX)] {
+        refused(&mut tables, Refusal::Invalid, |t, _| t.close(handle));
+        refused(&mut tables, Refusal::Invalid, |t, _| t.wait_any(Wait::new(&[SEM, handle], Owner(7))));
+        refused(&mut tables, Refusal::Invalid, |t, _| t.wait_all(Wait::new(&[SEM, handle], Owner(7))));
+        every_kind(&mut tables, handle);
     }
 }
 
 #[test]
 fn no_other_kind_is_taken() {
     let mut tables = three_objects();
-    for handle in 1..=3 {
-        every_kind(&mut tables, handle, handle);
+    for handle in [SEM, LOCK, EVENT] {
+        every_kind(&mut tables, handle);
     }
 }
 
-/// The calls for a kind refuse the handle, but for the kind of the object number `own` of three_objects.
-fn every_kind(tables: &mut Tables, handle: u32, own: u32) {
-    if own != 1 {
-        refused(tables, Answer::Invalid, |t| t.read_sem(handle));
-        refused(tables, Answer::Invalid, |t| t.post(handle, 1).map(|_| ()));
+/// The calls for a kind refuse the handle, but for the kind of its own object.
+fn every_kind(tables: &mut Tables, handle: Handle) {
+    if handle != SEM {
+        refused(tables, Refusal::Invalid, |t, _| t.read_sem(handle));
+        refused(tables, Refusal::Invalid, |t, w| t.post(handle, 1, w).map(drop));
     }
-    if own != 2 {
-        refused(tables, Answer::Invalid, |t| t.read_mutex(handle));
-        refused(tables, Answer::Invalid, |t| t.unlock(handle, 5).map(|_| ()));
-        refused(tables, Answer::Invalid, |t| t.kill_owner(handle, 5).map(|_| ()));
+    if handle != LOCK {
+        refused(tables, Refusal::Invalid, |t, _| t.read_mutex(handle));
+        refused(tables, Refusal::Invalid, |t, w| t.unlock(handle, Owner(5), w).map(drop));
+        refused(tables, Refusal::Invalid, |t, w| t.kill_owner(handle, Owner(5), w).map(drop));
     }
-    if own != 3 {
-        refused(tables, Answer::Invalid, |t| t.read_event(handle));
-        refused(tables, Answer::Invalid, |t| t.set(handle).map(|_| ()));
-        refused(tables, Answer::Invalid, |t| t.reset(handle));
-        refused(tables, Answer::Invalid, |t| t.pulse(handle).map(|_| ()));
+    if handle != EVENT {
+        refused(tables, Refusal::Invalid, |t, _| t.read_event(handle));
+        refused(tables, Refusal::Invalid, |t, w| t.set(handle, w).map(drop));
+        refused(tables, Refusal::Invalid, |t, _| t.reset(handle));
+        refused(tables, Refusal::Invalid, |t, w| t.pulse(handle, w).map(drop));
     }
 }
 
 #[test]
 fn owners_are_checked() {
     let mut tables = three_objects();
-    refused(&mut tables, Answer::Invalid, |t| t.unlock(2, 0).map(|_| ()));
-    refused(&mut tables, Answer::NotOwner, |t| t.unlock(2, 6).map(|_| ()));
-    refused(&mut tables, Answer::Invalid, |t| t.kill_owner(2, 0).map(|_| ()));
-    refused(&mut tables, Answer::NotOwner, |t| t.kill_owner(2, 6).map(|_| ()));
+    for (owner, refusal) in [(Owner::NOBODY, Refusal::Invalid), (Owner(6), Refusal::NotOwner)] {
+        refused(&mut tables, refusal, |t, w| t.unlock(LOCK, owner, w).map(drop));
+        refused(&mut tables, refusal, |t, w| t.kill_owner(LOCK, owner, w).map(drop));
+    }
 }
 
 #[test]
 fn post_refuses_past_the_maximum() {
     let mut tables = three_objects();
-    refused(&mut tables, Answer::Overflow, |t| t.post(1, 3).map(|_| ()));
-    refused(&mut tables, Answer::Overflow, |t| t.post(1, u32::MAX).map(|_| ()));
+    refused(&mut tables, Refusal::Overflow, |t, w| t.post(SEM, 3, w).map(drop));
+    refused(&mut tables, Refusal::Overflow, |t, w| t.post(SEM, u32::MAX, w).map(drop));
 }
 
 #[test]
 fn waits_refuse_bad_arguments() {
     let mut tables = three_objects();
-    let good = Wait::new(&[1], 7);
+    let good = Wait::new(&[SEM], Owner(7));
     let bad = [
         Wait { list: &[], ..good },
-        Wait { owner: 0, ..good },
-        Wait { flags: 2, ..good },
-        Wait { pad: 1, ..good },
-        good.alert(1),
-        good.alert(2),
-        good.alert(4),
-        good.alert(129),
+        Wait { owner: Owner::NOBODY, ..good },
+        good.alert(SEM),
+        good.alert(LOCK),
+        good.alert(NONE),
+        good.alert(Handle(129)),
     ];
     for wait in bad {
-        refused(&mut tables, Answer::Invalid, |t| t.wait_any(&wait));
-        refused(&mut tables, Answer::Invalid, |t| t.wait_all(&wait));
+        refused(&mut tables, Refusal::Invalid, |t, _| t.wait_any(wait));
+        refused(&mut tables, Refusal::Invalid, |t, _| t.wait_all(wait));
     }
-    refused(&mut tables, Answer::Invalid, |t| t.wait_all(&Wait::new(&[1, 3, 1], 7)));
-    refused(&mut tables, Answer::Invalid, |t| t.wait_all(&Wait::new(&[1, 3], 7).alert(3)));
+    refused(&mut tables, Refusal::Invalid, |t, _| t.wait_all(Wait::new(&[SEM, EVENT, SEM], Owner(7))));
+    refused(&mut tables, Refusal::Invalid, |t, _| t.wait_all(Wait::new(&[SEM, EVENT], Owner(7)).alert(EVENT)));
 }
 
 #[test]
 fn cancel_refuses_what_is_not_queued() {
     let mut tables = three_objects();
-    assert_eq!(tables.wait_any(&Wait::new(&[3], 7)), queued(1));
-    for ticket in [0, 2, NEVER] {
-        refused(&mut tables, Answer::Invalid, |t| t.cancel(ticket));
+    assert_eq!(tables.wait_any(Wait::new(&[EVENT], Owner(7))), queued(1));
+    for ticket in [0, 2, u64::MAX] {
+        refused(&mut tables, Refusal::Invalid, |t, _| t.cancel(Ticket(ticket)));
     }
 }
 
@@ -109,37 +112,36 @@ fn cancel_refuses_what_is_not_queued() {
 fn close_refuses_what_a_wait_names() {
     let mut tables = three_objects();
     let alert = tables.create_event(false, false).unwrap();
-    assert_eq!(tables.wait_all(&Wait::new(&[1, 3], 7).alert(alert)), queued(1));
-    for handle in [1, 3, alert] {
-        refused(&mut tables, Answer::Busy, |t| t.close(handle));
+    assert_eq!(tables.wait_all(Wait::new(&[SEM, EVENT], Owner(7)).alert(alert)), queued(1));
+    for handle in [SEM, EVENT, alert] {
+        refused(&mut tables, Refusal::Busy, |t, _| t.close(handle));
     }
-    assert_eq!(tables.close(2), Ok(()));
-    tables.cancel(1).unwrap();
-    assert_eq!(tables.close(1), Ok(()));
+    assert_eq!(tables.close(LOCK), Ok(()));
+    assert_eq!(tables.cancel(Ticket(1)), Ok(Outcome::Interrupted));
+    assert_eq!(tables.close(SEM), Ok(()));
 }
 
 #[test]
 fn corrupt_tables_are_refused_by_every_call() {
-    let mut cells = Box::new(*three_objects().cells());
+    let mut cells = *three_objects().cells();
     cells[CELLS - 1] = 1; // a list cell of a free wait place
-    let mut tables = Tables::from_cells(cells);
-    let t = &mut tables;
-    refused(t, Answer::Corrupt, |t| t.create_sem(1, 2));
-    refused(t, Answer::Corrupt, |t| t.create_mutex(0, 0));
-    refused(t, Answer::Corrupt, |t| t.create_event(true, true));
-    refused(t, Answer::Corrupt, |t| t.close(1));
-    refused(t, Answer::Corrupt, |t| t.read_sem(1));
-    refused(t, Answer::Corrupt, |t| t.read_mutex(2));
-    refused(t, Answer::Corrupt, |t| t.read_event(3));
-    refused(t, Answer::Corrupt, |t| t.post(1, 1).map(|_| ()));
-    refused(t, Answer::Corrupt, |t| t.unlock(2, 5).map(|_| ()));
-    refused(t, Answer::Corrupt, |t| t.kill_owner(2, 5).map(|_| ()));
-    refused(t, Answer::Corrupt, |t| t.set(3).map(|_| ()));
-    refused(t, Answer::Corrupt, |t| t.reset(3));
-    refused(t, Answer::Corrupt, |t| t.pulse(3).map(|_| ()));
-    refused(t, Answer::Corrupt, |t| t.wait_any(&Wait::new(&[1], 7)));
-    refused(t, Answer::Corrupt, |t| t.wait_all(&Wait::new(&[1], 7)));
-    refused(t, Answer::Corrupt, |t| t.expire(Clock::Monotonic, 0).map(|_| ()));
-    refused(t, Answer::Corrupt, |t| t.cancel(1));
-    refused(t, Answer::Corrupt, |t| t.snapshot());
+    let t = Tables::over(&mut cells);
+    refused(t, Refusal::Corrupt, |t, _| t.create_sem(1, 2));
+    refused(t, Refusal::Corrupt, |t, _| t.create_mutex(Owner::NOBODY, 0));
+    refused(t, Refusal::Corrupt, |t, _| t.create_event(true, true));
+    refused(t, Refusal::Corrupt, |t, _| t.close(SEM));
+    refused(t, Refusal::Corrupt, |t, _| t.read_sem(SEM));
+    refused(t, Refusal::Corrupt, |t, _| t.read_mutex(LOCK));
+    refused(t, Refusal::Corrupt, |t, _| t.read_event(EVENT));
+    refused(t, Refusal::Corrupt, |t, w| t.post(SEM, 1, w).map(drop));
+    refused(t, Refusal::Corrupt, |t, w| t.unlock(LOCK, Owner(5), w).map(drop));
+    refused(t, Refusal::Corrupt, |t, w| t.kill_owner(LOCK, Owner(5), w).map(drop));
+    refused(t, Refusal::Corrupt, |t, w| t.set(EVENT, w).map(drop));
+    refused(t, Refusal::Corrupt, |t, _| t.reset(EVENT));
+    refused(t, Refusal::Corrupt, |t, w| t.pulse(EVENT, w).map(drop));
+    refused(t, Refusal::Corrupt, |t, _| t.wait_any(Wait::new(&[SEM], Owner(7))));
+    refused(t, Refusal::Corrupt, |t, _| t.wait_all(Wait::new(&[SEM], Owner(7))));
+    refused(t, Refusal::Corrupt, |t, w| t.expire(Clock::Monotonic, Now(0), w).map(drop));
+    refused(t, Refusal::Corrupt, |t, _| t.cancel(Ticket(1)));
+    refused(t, Refusal::Corrupt, |t, _| t.snapshot(&mut [0; SNAPSHOT_BYTES]).map(drop));
 }
