@@ -1,10 +1,9 @@
 //! An archive of another version is refused by whatever makes or takes tables.
 
 use crate::{CELLS, Tables, VERSION};
-use std::boxed::Box;
 use std::cell::Cell;
+use std::format;
 use std::panic::{AssertUnwindSafe, catch_unwind};
-use std::string::String;
 
 std::thread_local! {
     static PRETENDED: Cell<Option<u32>> = const { Cell::new(None) };
@@ -20,26 +19,28 @@ fn versions_agree() {
     assert_eq!(crate::linked_version(), VERSION);
 }
 
-/// The panic's words.
-fn panics(make: impl FnOnce()) -> String {
-    PRETENDED.set(Some(VERSION + 1));
-    let panic = catch_unwind(AssertUnwindSafe(make)).expect_err("another version was taken");
-    PRETENDED.set(None);
-    panic.downcast_ref::<String>().expect("a sentence").clone()
+/// Not taken with a lower or a higher version, and the panic says which.
+fn refused(mut make: impl FnMut()) {
+    for other in [VERSION - 1, VERSION + 1] {
+        PRETENDED.set(Some(other));
+        let panic = catch_unwind(AssertUnwindSafe(&mut make)).expect_err("another version was taken");
+        PRETENDED.set(None);
+        let words = format!("libntsync.a has version {other}, this crate is for version {VERSION}");
+        assert_eq!(panic.downcast_ref(), Some(&words));
+    }
 }
 
 #[test]
 fn another_version_makes_no_tables() {
-    let mut cells = Box::new([0; CELLS]);
-    let words = panics(|| _ = Tables::new());
-    assert_eq!(words, "libntsync.a has version 2, this crate is for version 1");
-    assert_eq!(panics(|| _ = Tables::default()), words);
-    assert_eq!(panics(|| _ = Tables::over(&mut cells)), words);
-    assert_eq!(panics(|| _ = Tables::over_slice(&mut cells[..])), words);
-    assert_eq!(panics(|| _ = Tables::view(&cells)), words);
+    let mut cells = [0; CELLS];
+    refused(|| _ = Tables::new());
+    refused(|| _ = Tables::default());
+    refused(|| _ = Tables::over(&mut cells));
+    refused(|| _ = Tables::over_slice(&mut cells));
+    refused(|| _ = Tables::view(&cells));
     #[cfg(feature = "alloc")]
     {
-        assert_eq!(panics(|| _ = Tables::boxed()), words);
-        assert_eq!(panics(|| _ = Tables::over_box(cells)), words);
+        refused(|| _ = Tables::boxed());
+        refused(|| _ = Tables::over_box(std::boxed::Box::new(cells)));
     }
 }
