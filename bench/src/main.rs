@@ -1,6 +1,6 @@
 //! Each call of the library beside a plain Rust version of it, on the same tables with the same arguments
 //! (docs/BENCH.md). bench/run runs it twice: `bench count` under callgrind, then `bench report FILE`, with the file
-//! that callgrind wrote.
+//! that callgrind wrote. tests/run runs `bench compare`, which measures nothing.
 
 /// The library's functions, as the Rust host declares them.
 #[allow(dead_code)]
@@ -55,6 +55,8 @@ fn main() {
     let plan = plan(&fillings, &scenarios);
     let arguments: Vec<String> = std::env::args().skip(1).collect();
     match arguments.iter().map(String::as_str).collect::<Vec<_>>()[..] {
+        ["compare"] => println!("bench: passed, {} scenarios alike on both sides", scenarios.len()),
+        _ if !cfg!(feature = "check") => panic!("without the feature check there is bench compare alone"),
         ["count"] => measure::count_all(&plan),
         ["report", file] => {
             let counts = measure::read_counts(file);
@@ -63,6 +65,6 @@ fn main() {
             report::print_checks(&fillings, checks);
             report::print_scenarios(&scenarios, calls);
         }
-        _ => panic!("bench count, or bench report FILE"),
+        _ => panic!("bench compare, bench count, or bench report FILE"),
     }
 }

@@ -1,7 +1,6 @@
 //! What is measured: one table of calls, each with the tables that it begins with and the outcome that it must have.
 
-use crate::ffi::{MONOTONIC, NEVER, OBJECT_PLACES, WAIT_PLACES};
-use crate::plain::answer::*;
+use crate::ffi::*;
 use crate::plain::cells::{parts_mut, wait_mut, EVENT, SEMAPHORE, TIMEOUT};
 use crate::results::Outcome;
 use crate::sides::{Call, FreshWait, TIME};

@@ -9,27 +9,9 @@ mod queue;
 mod snapshot;
 
 use crate::ffi::*;
-use answer::*;
 use cells::{names, parts, parts_mut, PartsMut, TICKET, WAIT_CELLS};
 use object::{empty_place, get, put, Object};
 use queue::{walk, Asked};
-
-/// The answers, as include/ntsync.h numbers them.
-pub mod answer {
-    pub const DONE: u32 = 0;
-    pub const EINVAL: u32 = 1;
-    pub const EPERM: u32 = 2;
-    pub const EOVERFLOW: u32 = 3;
-    pub const EOWNERDEAD: u32 = 4;
-    pub const ETIMEDOUT: u32 = 5;
-    pub const EINTR: u32 = 6;
-    pub const NO_ROOM: u32 = 7;
-    pub const TICKETS_SPENT: u32 = 8;
-    pub const CORRUPT: u32 = 9;
-    pub const BUSY: u32 = 10;
-    pub const QUEUED: u32 = 11;
-    pub const LIST_SHORT: u32 = 12;
-}
 
 /// What a call returns, or the answer that stands alone.
 type Outcome<T> = Result<T, u32>;

@@ -1,10 +1,9 @@
 //! Waits: an attempt, a fresh wait, and the waits that leave the queue.
 
-use super::answer::*;
 use super::cells::*;
 use super::check::all_differ;
 use super::object::{acquire, is_signaled};
-use crate::ffi::{Waited, MAX_LISTED, NEVER, REALTIME, RECORD_CELLS, WAIT_PLACES};
+use crate::ffi::*;
 use std::array::from_fn;
 
 /// The answer and the index of a wait that was served.
