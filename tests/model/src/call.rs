@@ -37,6 +37,11 @@ impl Call {
         }
     }
 
+    /// Whether the call takes its tables for reading alone.
+    pub fn only_reads(&self) -> bool {
+        matches!(self, Call::ReadSem { .. } | Call::ReadMutex { .. } | Call::ReadEvent { .. } | Call::Picture { .. })
+    }
+
     /// The list of a wait; empty for other calls.
     pub fn listed(&self) -> &[u32] {
         match self {

@@ -3,6 +3,7 @@
 
 use crate::calls::{all, any, at_time, event, expire, kill, mutex, post, pulse, sem, set, unlock, with_wake};
 use crate::lent;
+use crate::library;
 use crate::play::Bench;
 use crate::script::{heard_text, step_or_text};
 use second_model::{Call, Outcome, Report, LIST, NEVER, OBJECTS, PICTURE_BYTES, WAITS, WAKE_CELLS};
@@ -57,7 +58,7 @@ pub fn run() -> Result<String, String> {
         test(&mut case).map_err(|what| format!("{name}: {what}"))?;
         calls += case.calls;
     }
-    Ok(format!("{} cases, {calls} calls", TESTS.len()))
+    Ok(format!("{} cases, {calls} calls{}", TESTS.len(), library::skipped()))
 }
 
 impl Case {

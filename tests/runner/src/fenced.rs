@@ -1,10 +1,10 @@
 //! Random histories in memory that ends where the lent arrays begin and end. Sentinels show what was written out of bounds,
-//! and fences what was read: the program is ended then, and prints no history.
+//! and fences what was read: the program is ended then (`crash.rs`). What a call may only read lies in read-only pages.
 
 use crate::history::{play_many, Failure};
 use crate::library::Fence;
 use crate::play::Bench;
-use crate::shrink::shrunk;
+use crate::shrink::{shrunk, Trial};
 use crate::Limits;
 
 const SEED: u64 = 11;
@@ -19,10 +19,10 @@ pub fn run(limits: Limits) -> Result<String, String> {
         bench.library.fence = Some(fence);
         let (coverage, failure) = play_many(bench, seed, CALLS, None);
         if let Some(Failure { history, difference }) = failure {
-            let (_, script) = shrunk(history, None);
+            let (_, script) = shrunk(history, Trial::Here(None));
             return Err(format!("{fence:?}: {}\n{script}", difference.what));
         }
         calls += coverage.calls;
     }
-    Ok(format!("{calls} calls, with a fence before and behind all that is lent"))
+    Ok(format!("{calls} calls, with a fence before and behind all that is lent, read-only where a call only reads"))
 }

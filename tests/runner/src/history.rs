@@ -4,7 +4,7 @@ use crate::coverage::{Before, Coverage};
 use crate::generate::Mood;
 use crate::play::{Bench, Difference};
 use crate::random::Random;
-use crate::shrink::shrunk;
+use crate::shrink::{shrunk, Trial};
 use crate::Limits;
 use second_model::{Call, Slip};
 use std::thread;
@@ -18,7 +18,7 @@ const CALLS: u64 = 300_000;
 const TELLING_CALLS: u64 = 1_000_000;
 
 /// Calls on newly made tables; `next` other than 1 is written into them first.
-#[derive(Clone, PartialEq, Debug)]
+#[derive(Clone, PartialEq, Debug, Default)]
 pub struct History {
     pub next: u64,
     pub calls: Vec<Call>,
@@ -34,7 +34,7 @@ impl History {
     }
 
     /// The first call on which library and model differ, with its place.
-    pub fn first_difference(&self, slip: Option<Slip>) -> Option<(usize, Difference)> {
+    pub fn first_difference(&self, slip: Option<Slip>) -> Option<(usize, Box<Difference>)> {
         let mut bench = Bench::new(slip);
         self.begin(&mut bench);
         let mut steps = self.calls.iter().enumerate();
@@ -45,7 +45,7 @@ impl History {
 /// A history whose last call differs.
 pub struct Failure {
     pub history: History,
-    pub difference: Difference,
+    pub difference: Box<Difference>,
 }
 
 pub fn run(limits: Limits) -> Result<String, String> {
@@ -60,7 +60,7 @@ pub fn run(limits: Limits) -> Result<String, String> {
     let mut coverage = Coverage::default();
     for (seed, (of_seed, failure)) in seeds.iter().zip(played) {
         if let Some(Failure { history, difference }) = failure {
-            let (_, script) = shrunk(history, None);
+            let (_, script) = shrunk(history, Trial::Here(None));
             return Err(format!("seed {seed}, history {}: {}\n{script}", of_seed.histories, difference.what));
         }
         coverage.add(of_seed);

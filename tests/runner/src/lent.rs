@@ -90,8 +90,8 @@ pub fn far_lengths(case: &mut Case) -> Done {
 fn far(case: &mut Case, call: &Call, far: Far, length: usize, due: Option<Outcome>) -> Done {
     case.calls += 1;
     let before = case.bench.library.tables().to_vec();
+    let Some(heard) = case.bench.library.play_far(call, far, length)? else { return Ok(()) };
     let due = due.unwrap_or_else(|| case.bench.model.step(call));
-    let heard = case.bench.library.play_far(call, far, length)?;
     let tables = case.bench.library.tables();
     let kept = !answer::is_refusal(due.answer) || tables == &before[..];
     match layout::differs(tables, &case.bench.model.state) {

@@ -1,7 +1,9 @@
 //! The library through its C interface, with sentinels around all that is lent, and in what is lent for writing.
 
+use crate::crash;
 use second_model::{Call, Mode, Outcome, Report};
 use std::os::raw::c_void;
+use std::sync::atomic::{AtomicUsize, Ordering::Relaxed};
 
 #[repr(C)]
 struct Pair {
@@ -147,6 +149,8 @@ pub struct Library {
     pub tamper: Option<(usize, Tamper)>,
     /// Whether the arrays are lent in fenced memory, and at which fence.
     pub fence: Option<Fence>,
+    /// In which calls to end the program, as a library with an error might.
+    pub ends_at: Option<fn(&Call) -> bool>,
 }
 
 /// Where the arrays of a call begin, and the lengths that no `Call` has.
@@ -163,6 +167,17 @@ fn sentinel(cell: usize) -> u64 {
     0x5a5a_0000_c3c3_0000 ^ (cell as u64).wrapping_mul(0x9e37_79b9)
 }
 
+/// Calls with long arrays that were not played.
+static SKIPPED: AtomicUsize = AtomicUsize::new(0);
+
+/// What to say of them, if there were any.
+pub fn skipped() -> String {
+    match SKIPPED.swap(0, Relaxed) {
+        0 => String::new(),
+        calls => format!("; SKIPPED: {calls} calls with arrays of 2^32 elements, for the address space is limited"),
+    }
+}
+
 pub fn version() -> u32 {
     unsafe { ntsync_version() }
 }
@@ -177,6 +192,7 @@ impl Library {
             list: Lent::new(MOST_LISTED, |i| sentinel(i) as u32),
             tamper: None,
             fence: None,
+            ends_at: None,
         }
     }
 
@@ -212,7 +228,7 @@ impl Library {
             return self.play_fenced(call, fence);
         }
         let lending = self.lending(call, cells);
-        let outcome = unsafe { heard(call, &lending) };
+        let outcome = self.heard(call, &lending);
         self.taken_back(call, outcome)
     }
 
@@ -220,10 +236,14 @@ impl Library {
     fn play_fenced(&mut self, call: &Call, fence: Fence) -> Result<Outcome, String> {
         let bytes = if let Call::Picture { bytes } = call { *bytes } else { 0 };
         let woken = call.wake_cells().unwrap_or(0);
-        let tables = Fenced::new(self.tables(), fence)?;
+        let mut tables = Fenced::new(self.tables(), fence)?;
+        if call.only_reads() {
+            tables.protect()?;
+        }
         let wake = Fenced::new(self.wake.front(woken), fence)?;
         let buffer = Fenced::new(self.buffer.front(bytes), fence)?;
-        let list = Fenced::new(call.listed(), fence)?;
+        let mut list = Fenced::new(call.listed(), fence)?;
+        list.protect()?;
         let lending = Lending {
             tables: tables.elements,
             wake: wake.elements,
@@ -231,7 +251,7 @@ impl Library {
             list: list.elements,
             ..self.lending(call, CELLS)
         };
-        let outcome = unsafe { heard(call, &lending) };
+        let outcome = self.heard(call, &lending);
         tables.give_back(self.tables_mut());
         wake.give_back(self.wake.front_mut(woken));
         buffer.give_back(self.buffer.front_mut(bytes));
@@ -239,9 +259,13 @@ impl Library {
         self.taken_back(call, outcome)
     }
 
-    /// The same, with one array `length` elements long, in a mapping of its own.
-    pub fn play_far(&mut self, call: &Call, far: Far, length: usize) -> Result<Outcome, String> {
-        let mapping = Mapping::new(length)?;
+    /// The same, with one array `length` elements long, in a mapping of its own. Nothing is played, and that is counted,
+    /// where the address space is too small for it.
+    pub fn play_far(&mut self, call: &Call, far: Far, length: usize) -> Result<Option<Outcome>, String> {
+        let Some(mapping) = Mapping::new(length) else {
+            SKIPPED.fetch_add(1, Relaxed);
+            return Ok(None);
+        };
         let mut lending = self.lending(call, CELLS);
         match far {
             Far::Tables => (lending.tables, lending.cells) = (mapping.hold(self.tables()), length),
@@ -249,14 +273,23 @@ impl Library {
             Far::Buffer => lending.buffer = mapping.hold(self.buffer.front(MOST_BYTES)),
             Far::List => (lending.list, lending.listed) = (mapping.hold(call.listed()), length),
         }
-        let outcome = unsafe { heard(call, &lending) };
+        let outcome = self.heard(call, &lending);
         match far {
             Far::Tables => mapping.give_back(self.tables_mut()),
             Far::Wake => mapping.give_back(self.wake.front_mut(MOST_WAKE)),
             Far::Buffer => mapping.give_back(self.buffer.front_mut(MOST_BYTES)),
             Far::List => mapping.give_back(self.list.front_mut(call.listed().len())),
         }
-        self.taken_back(call, outcome)
+        self.taken_back(call, outcome).map(Some)
+    }
+
+    fn heard(&self, call: &Call, lending: &Lending) -> Outcome {
+        crash::call(call);
+        if self.ends_at.is_some_and(|ends| ends(call)) {
+            crash::end();
+        }
+        // SAFETY: the arrays of a `Lending` are of the call's lengths, and apart.
+        unsafe { heard(call, lending) }
     }
 
     fn lending(&mut self, call: &Call, cells: usize) -> Lending {
@@ -335,14 +368,14 @@ struct Mapping {
 impl Mapping {
     const WRITABLE: usize = 65_536;
 
-    /// Room for so many cells.
-    fn new(cells: usize) -> Result<Mapping, String> {
+    /// Room for so many cells, if the address space has it.
+    fn new(cells: usize) -> Option<Mapping> {
         let bytes = (8 * cells).max(Mapping::WRITABLE);
         let at = unsafe { mmap(std::ptr::null_mut(), bytes, 1, 0x4022, -1, 0) };
         if at as isize == -1 || unsafe { mprotect(at, Mapping::WRITABLE, 3) } != 0 {
-            return Err(format!("no room to map {bytes} bytes"));
+            return None;
         }
-        Ok(Mapping { at, bytes })
+        Some(Mapping { at, bytes })
     }
 
     fn hold<T: Copy>(&self, front: &[T]) -> *mut T {
@@ -393,6 +426,15 @@ impl<T: Copy> Fenced<T> {
         let lent: *mut T = unsafe { at.byte_add(Self::PAGE + slack) }.cast();
         unsafe { std::ptr::copy_nonoverlapping(elements.as_ptr(), lent, elements.len()) };
         Ok(Fenced { at, bytes, elements: lent })
+    }
+
+    /// From now on writing ends the program too.
+    fn protect(&mut self) -> Result<(), String> {
+        let inner = self.bytes - 2 * Self::PAGE;
+        match unsafe { mprotect(self.at.byte_add(Self::PAGE), inner, 1) } {
+            0 => Ok(()),
+            _ => Err(format!("{inner} bytes can't be made read-only")),
+        }
     }
 
     fn give_back(&self, elements: &mut [T]) {

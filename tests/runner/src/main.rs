@@ -1,9 +1,12 @@
 //! Tests of libntsync.a through its C interface.
-//! runner [--vectors] [--directed] [--tampered] [--random] [--damaged] [--slips] [--seed N] [--calls N] [--seconds N]
-//! No mode named: all of them. runner --script FILE plays the histories of a file in the notation of the vectors.
+//! runner [--vectors] [--directed] [--tampered] [--crashes] [--random] [--fenced] [--damaged] [--slips]
+//!     [--seed N] [--calls N] [--seconds N]
+//! No mode named: all of them. runner --script FILE plays the histories of a file in the notation of the vectors;
+//! runner --shrink FILE makes the failing history of such a file smaller.
 
 mod calls;
 mod coverage;
+mod crash;
 mod damaged;
 mod directed;
 mod fenced;
@@ -42,10 +45,11 @@ impl Limits {
 
 type Run = fn(Limits) -> Result<String, String>;
 
-const MODES: [(&str, Run); 7] = [
+const MODES: [(&str, Run); 8] = [
     ("vectors", |_| vectors::run()),
     ("directed", |_| directed::run()),
     ("tampered", |_| tampered::run()),
+    ("crashes", |_| crash::run()),
     ("random", history::run),
     ("fenced", fenced::run),
     ("damaged", damaged::run),
@@ -60,9 +64,10 @@ fn main() -> ExitCode {
             return ExitCode::from(2);
         }
     };
+    crash::watch();
     let mut passed = true;
-    if let Some(file) = &given.script {
-        passed = report("script", || vectors::run_script(file));
+    if let Some((name, run)) = given.alone {
+        passed = report(name, run);
     }
     for (name, run) in MODES {
         if given.modes.contains(&name) {
@@ -87,15 +92,23 @@ fn report(name: &str, run: impl FnOnce() -> Result<String, String>) -> bool {
     result.is_ok()
 }
 
+type Alone = Box<dyn FnOnce() -> Result<String, String>>;
+
+fn with_file(file: Option<String>, run: fn(&str) -> Result<String, String>) -> Result<Alone, String> {
+    let file = file.ok_or("--script and --shrink take a file")?;
+    Ok(Box::new(move || run(&file)))
+}
+
 struct Given {
     modes: Vec<&'static str>,
     limits: Limits,
-    script: Option<String>,
+    /// What is no mode, and is done instead of all modes.
+    alone: Option<(&'static str, Alone)>,
 }
 
 fn arguments() -> Result<Given, String> {
     let limits = Limits { seed: None, calls: None, seconds: None };
-    let mut given = Given { modes: Vec::new(), limits, script: None };
+    let mut given = Given { modes: Vec::new(), limits, alone: None };
     let mut words = std::env::args().skip(1);
     while let Some(word) = words.next() {
         let mut number = || {
@@ -106,14 +119,16 @@ fn arguments() -> Result<Given, String> {
             "seed" => given.limits.seed = number()?,
             "calls" => given.limits.calls = number()?,
             "seconds" => given.limits.seconds = number()?,
-            "script" => given.script = Some(words.next().ok_or("--script takes a file")?),
+            "script" => given.alone = Some(("script", with_file(words.next(), vectors::run_script)?)),
+            "shrink" => given.alone = Some(("shrink", with_file(words.next(), crash::run_shrink)?)),
+            "ending" => given.alone = Some(("ending", Box::new(crash::run_ending))),
             mode => {
                 let known = MODES.iter().find(|(name, _)| *name == mode);
                 given.modes.push(known.ok_or(format!("unknown argument {word}"))?.0);
             }
         }
     }
-    if given.modes.is_empty() && given.script.is_none() {
+    if given.modes.is_empty() && given.alone.is_none() {
         given.modes = MODES.iter().map(|(name, _)| *name).collect();
     }
     Ok(given)

@@ -1,5 +1,6 @@
 //! Library and second model side by side.
 
+use crate::crash;
 use crate::layout;
 use crate::library::{Library, CELLS};
 use second_model::{answer, Call, Model, Outcome, Slip, PICTURE_BYTES};
@@ -21,6 +22,7 @@ pub struct Difference {
 
 impl Bench {
     pub fn new(slip: Option<Slip>) -> Bench {
+        crash::begun(1);
         let library = Library::made();
         let before = library.tables().to_vec();
         Bench { library, model: Model::new(slip), before }
@@ -28,6 +30,7 @@ impl Bench {
 
     /// Starts a new history: newly made tables on both sides, over whatever the last one left.
     pub fn make(&mut self) {
+        crash::begun(1);
         assert_eq!(self.library.init(CELLS), Ok(0), "init");
         self.before.copy_from_slice(self.library.tables());
         self.model = Model::new(self.model.slip);
@@ -36,31 +39,34 @@ impl Bench {
 
     /// Writes the next ticket on both sides: an age that no history here can reach by calls.
     pub fn write_next(&mut self, next: u64) {
+        crash::begun(next);
         self.library.tables_mut()[0] = next;
         self.before[0] = next;
         self.model.state.next = next;
     }
 
     /// One call on both, and then the picture of both; what both answered to the call.
-    pub fn step(&mut self, call: &Call) -> Result<Outcome, Difference> {
+    pub fn step(&mut self, call: &Call) -> Result<Outcome, Box<Difference>> {
+        crash::step(call);
         let outcome = self.call(call)?;
         match self.call(&Call::Picture { bytes: PICTURE_BYTES }) {
             Ok(_) => Ok(outcome),
-            Err(Difference { what, .. }) => {
-                Err(Difference { library: Some(outcome.clone()), model: outcome, what: format!("afterwards: {what}") })
+            Err(later) => {
+                let what = format!("afterwards: {}", later.what);
+                Err(Box::new(Difference { library: Some(outcome.clone()), model: outcome, what }))
             }
         }
     }
 
-    fn call(&mut self, call: &Call) -> Result<Outcome, Difference> {
+    fn call(&mut self, call: &Call) -> Result<Outcome, Box<Difference>> {
         let model = self.model.step(call);
         let library = match self.library.play(call) {
             Ok(outcome) => outcome,
-            Err(what) => return Err(Difference { library: None, model, what }),
+            Err(what) => return Err(Box::new(Difference { library: None, model, what })),
         };
         match self.compare(call, &library, &model) {
             None => Ok(library),
-            Some(what) => Err(Difference { library: Some(library), model, what }),
+            Some(what) => Err(Box::new(Difference { library: Some(library), model, what })),
         }
     }
 

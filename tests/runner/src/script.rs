@@ -4,7 +4,7 @@
 
 use crate::history::History;
 use crate::play::{Bench, Difference};
-use second_model::{Call, Mode, Outcome, Slip, NEVER, PICTURE_BYTES, WAKE_CELLS};
+use second_model::{Call, Mode, Model, Outcome, Slip, NEVER, PICTURE_BYTES, WAKE_CELLS};
 
 pub fn call_text(call: &Call) -> String {
     let words = match call {
@@ -87,13 +87,32 @@ pub fn step_text(name: &str, call: &str, rest: &str) -> String {
 pub fn history_text(history: &History, slip: Option<Slip>) -> String {
     let mut bench = Bench::new(slip);
     history.begin(&mut bench);
-    let mut text = String::from("F a failing history");
-    text += &if history.next == 1 { "\n".into() } else { format!(", next={}\n", history.next) };
+    let mut text = title(history);
     for (at, call) in history.calls.iter().enumerate() {
         let rest = match bench.step(call) {
             Ok(outcome) => outcome_text(call, &outcome),
             Err(difference) => difference_text(call, &difference),
         };
+        text += &step_text(&format!("F.{}", at + 1), &call_text(call), &rest);
+    }
+    text
+}
+
+fn title(history: &History) -> String {
+    let next = if history.next == 1 { String::new() } else { format!(", next={}", history.next) };
+    format!("F a failing history{next}\n")
+}
+
+/// A history that may end the program: the library is not asked again.
+pub fn ended_text(history: &History) -> String {
+    let mut model = Model::new(None);
+    model.state.next = history.next;
+    let mut text = title(history);
+    for (at, call) in history.calls.iter().enumerate() {
+        let mut rest = outcome_text(call, &model.step(call));
+        if at + 1 == history.calls.len() {
+            rest += " | LIBRARY: ended the program, or differed";
+        }
         text += &step_text(&format!("F.{}", at + 1), &call_text(call), &rest);
     }
     text

@@ -3,7 +3,7 @@
 
 use crate::history::{play_many, Failure};
 use crate::play::Bench;
-use crate::shrink::shrunk;
+use crate::shrink::{shrunk, Trial};
 use crate::vectors::read_back;
 use crate::Limits;
 use second_model::Slip;
@@ -34,7 +34,7 @@ pub fn run(limits: Limits) -> Result<String, String> {
 }
 
 fn script_of(failure: Failure, slip: Slip) -> Result<String, String> {
-    let (history, script) = shrunk(failure.history, Some(slip));
+    let (history, script) = shrunk(failure.history, Trial::Here(Some(slip)));
     if read_back(&script)? != history {
         return Err(format!("the script reads otherwise than the history\n{script}"));
     }

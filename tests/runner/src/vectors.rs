@@ -1,7 +1,7 @@
 //! Plays vectors/histories.txt, or a script in its notation, through the C interface, and beside it the second model.
 
 use crate::history::History;
-use crate::library::Far;
+use crate::library::{self, Far};
 use crate::play::Bench;
 use crate::script::{heard_text, number_names, outcome_text, step_or_text, step_text};
 use second_model::{answer, Call, Mode, Outcome, Report, LIST, NEVER, PICTURE_BYTES, WAKE_CELLS};
@@ -33,7 +33,7 @@ struct Script {
 pub fn run() -> Result<String, String> {
     let first = FILE.find("\nK1 ").ok_or("no history K1")?;
     match play_text(&FILE[first..], &mut String::new())? {
-        played if played == WHOLE => Ok(played),
+        played if played == WHOLE => Ok(played + &library::skipped()),
         played => Err(format!("{played}, and the file had {WHOLE}: some were lost, or came")),
     }
 }
@@ -71,7 +71,10 @@ fn play(script: &Script, heard: &mut String) -> Result<(), String> {
     History { next: script.next, calls: Vec::new() }.begin(&mut bench);
     for step in &script.steps {
         let outcome = match step.length {
-            Some(n) => long_wait(&mut bench, &step.call, n)?,
+            Some(n) => match long_wait(&mut bench, &step.call, n)? {
+                Some(outcome) => outcome,
+                None => continue,
+            },
             None => step_or_text(&mut bench, &step.call).map_err(|what| format!("{} {what}", step.name))?,
         };
         *heard += &step_text(&step.name, &step.text, &outcome_text(&step.call, &outcome));
@@ -100,12 +103,12 @@ fn other_steps(step: &Step) -> Vec<Step> {
     others
 }
 
-/// A list too long to be written out: refused by its length, so the model is not asked.
-fn long_wait(bench: &mut Bench, call: &Call, n: usize) -> Result<Outcome, String> {
+/// A list too long to be written out: refused by its length, so the model is not asked. None if it can't be lent.
+fn long_wait(bench: &mut Bench, call: &Call, n: usize) -> Result<Option<Outcome>, String> {
     let before = bench.library.tables().to_vec();
-    let outcome = bench.library.play_far(call, Far::List, n)?;
+    let Some(outcome) = bench.library.play_far(call, Far::List, n)? else { return Ok(None) };
     if answer::is_refusal(outcome.answer) && bench.library.tables() == &before[..] {
-        return Ok(outcome);
+        return Ok(Some(outcome));
     }
     Err(format!("not refused, or tables written: {}", heard_text(call, &outcome)))
 }
