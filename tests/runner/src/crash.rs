@@ -135,7 +135,7 @@ pub fn run_shrink(file: &str) -> Result<String, String> {
         if first_failure(&history, child).is_some() {
             let (_, script) = shrunk(history, Trial::Apart(child));
             print!("{script}");
-            return Ok(format!("fence: {fence:?}"));
+            return Ok(fence.map_or("without fences".into(), |fence| format!("with fences: {fence:?}")));
         }
     }
     Err("the history does not fail".into())

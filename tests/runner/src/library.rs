@@ -118,7 +118,7 @@ impl<T: Copy + PartialEq> Lent<T> {
 
     /// For tampering; a negative cell is in the guard.
     pub fn cell_mut(&mut self, cell: isize) -> &mut T {
-        &mut self.cells[GUARD.strict_add_signed(cell)]
+        &mut self.cells[GUARD.checked_add_signed(cell).expect("a cell or a guard")]
     }
 
     /// An error if an element before or behind the filled front was written.
@@ -174,7 +174,7 @@ static SKIPPED: AtomicUsize = AtomicUsize::new(0);
 pub fn skipped() -> String {
     match SKIPPED.swap(0, Relaxed) {
         0 => String::new(),
-        calls => format!("; SKIPPED: {calls} calls with arrays of 2^32 elements, for the address space is limited"),
+        calls => format!("; SKIPPED, for the address space is limited: {calls} with an array of 2^32 elements"),
     }
 }
 
