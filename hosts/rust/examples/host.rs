@@ -1,4 +1,4 @@
-//! A host in one file: its own memory for the tables, a clock, tasks that wait, and what the host owes them.
+//! A host in one file: its own memory for the tables, a clock, tasks that wait, and what they must be told.
 //! `cargo run --example host` prints the story; the test below compares it.
 
 use ntsync::{

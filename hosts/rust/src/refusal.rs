@@ -37,7 +37,7 @@ pub enum Refusal {
 impl Refusal {
     /// Every refusal, by number.
     pub(crate) const ALL: [Refusal; 8] = {
-        use Refusal::*;
+        use Refusal::{Busy, Corrupt, Invalid, ListShort, NoRoom, NotOwner, Overflow, TicketsSpent};
         [Invalid, NotOwner, Overflow, NoRoom, TicketsSpent, Corrupt, Busy, ListShort]
     };
 

@@ -57,6 +57,7 @@ pub fn call(call: &Call) {
 
 /// Ends the program as an error in the library would.
 pub fn end() {
+    // SAFETY: the handler ends the program, or the signal's default does.
     unsafe { raise(SEGV) };
 }
 
@@ -66,14 +67,17 @@ pub fn watch() {
 }
 
 fn handle(handler: usize) {
+    // SAFETY: `ended` takes a signal's number, and 0 is the default.
     SIGNALS.iter().for_each(|&number| _ = unsafe { signal(number, handler) });
 }
 
 /// Allocates, which a handler should not: but the signal came from inside the library, which does not. If it did not, and
 /// this hangs, the alarm ends it.
 extern "C" fn ended(number: i32) {
+    // SAFETY: takes a number alone.
     unsafe { alarm(LONG) };
     let text = last_words(number);
+    // SAFETY: the text is passed with its length; nothing runs afterwards.
     unsafe {
         write(1, text.as_ptr(), text.len());
         _exit(128 + number)
@@ -95,9 +99,11 @@ pub struct Child {
 
 /// The place of the first call that differs from the model's, or in which a child that plays the history is ended.
 pub fn first_failure(history: &History, child: Child) -> Option<usize> {
+    // SAFETY, here and below: memory of its own, which is given back once; and no other thread runs, so that the child has
+    // no lock of one.
     let shared = unsafe { mmap(std::ptr::null_mut(), PAGE, 3, 0x21, -1, 0) };
     assert!(shared as isize != -1, "a page to share with a child");
-    // SAFETY: the page is mapped until the end of this function, zeroed, and shared with the child alone.
+    // SAFETY: the page is mapped until the end of this function, zeroed, and only these two write it.
     let begun = unsafe { &*shared.cast::<AtomicUsize>() };
     let mut status = 0;
     match unsafe { fork() } {
