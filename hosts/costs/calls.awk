@@ -1,0 +1,42 @@
+# From objdump -dr of the archive: each call's stack by its instructions, "NAME BYTES", or "recursion NAME" and exit code 1.
+# A function takes its return address, the registers that it pushes and what it subtracts from rsp, and then its deepest
+# callee, or, calling nobody, the 128 bytes below rsp that the platform grants it, if it uses any of them. memset and memcpy
+# count with their return address. The waits' last four arguments are the caller's 32 bytes.
+/^[0-9a-f]+ <.*>:$/ { name = $0; sub(/^[0-9a-f]+ </, "", name); sub(/>:$/, "", name); known[name] = 1; next }
+/\tpush / { frame[name] += 8 }
+/\tsub +\$0x[0-9a-f]+,%rsp/ { size = $0; sub(/.*\$0x/, "", size); sub(/,%rsp.*/, "", size); frame[name] += hex(size) }
+/\tcall +\*|\tand .*,%rsp|\tsub +%.*,%rsp/ { print "a stack that the instructions do not tell: " name; failed = 1; exit }
+/-0x[0-9a-f]+\(%rsp/ { below[name] = 128 }
+/R_X86_64_PLT32/ { to = $3; sub(/-0x4$/, "", to); sub(/^\.text\./, "", to); callees[name] = callees[name] " " to }
+
+function hex(digits,    i, n) {
+    for (i = 1; i <= length(digits); i++)
+        n = 16 * n + index("0123456789abcdef", substr(digits, i, 1)) - 1
+    return n
+}
+
+function depth(f,    list, n, i, deepest) {
+    if (f == "memset" || f == "memcpy")
+        return 8
+    if (!(f in known) || inside[f]) {
+        print (inside[f] ? "recursion " : "unknown callee ") f
+        failed = 1
+        return 0
+    }
+    inside[f] = 1
+    n = split(callees[f], list, " ")
+    deepest = n == 0 ? below[f] : 0
+    for (i = 1; i <= n && !failed; i++)
+        if (depth(list[i]) > deepest)
+            deepest = depth(list[i])
+    inside[f] = 0
+    return 8 + frame[f] + deepest
+}
+
+END {
+    if (!failed)
+        for (f in known)
+            if (f ~ /^ntsync_[a-z_]*$/)
+                print f, depth(f) + (f ~ /^ntsync_wait/ ? 32 : 0)
+    exit failed
+}
