@@ -136,6 +136,11 @@
 #define NTSYNC_WAITS NTSYNC_ALTERS_TABLES NTSYNC_ACCESS(read_only, 3, 4)
 #define NTSYNC_WRITES_BUFFER NTSYNC_READS_TABLES NTSYNC_ACCESS(write_only, 3, 4) NTSYNC_CHECK_BYTES
 
+#ifdef __clang__ /* which else warns about diagnose_if under -Wpedantic, because gcc does not know it */
+#pragma clang diagnostic push
+#pragma clang diagnostic ignored "-Wgcc-compat"
+#endif
+
 #ifdef __cplusplus
 extern "C" {
 #endif
@@ -294,6 +299,10 @@ ntsync_wait_all_list(uint64_t *tables, size_t cells, const uint32_t *list, size_
 
 #ifdef __cplusplus
 }
+#endif
+
+#ifdef __clang__
+#pragma clang diagnostic pop
 #endif
 
 #endif

@@ -7,6 +7,10 @@
 /\tsub +\$0x[0-9a-f]+,%rsp/ { size = $0; sub(/.*\$0x/, "", size); sub(/,%rsp.*/, "", size); frame[name] += hex(size) }
 /\tcall +\*|\tand .*,%rsp|\tsub +%.*,%rsp/ { print "a stack that the instructions do not tell: " name; failed = 1; exit }
 /-0x[0-9a-f]+\(%rsp/ { below[name] = 128 }
+# A call within a section has no relocation behind it; its target stands in the instruction.
+pending != "" && !/R_X86_64_/ { callees[name] = callees[name] " " pending }
+{ pending = "" }
+/\tcall +[0-9a-f]+ </ { pending = $0; sub(/.*</, "", pending); sub(/[+>].*/, "", pending) }
 /R_X86_64_PLT32/ { to = $3; sub(/-0x4$/, "", to); sub(/^\.text\./, "", to); callees[name] = callees[name] " " to }
 
 function hex(digits,    i, n) {
