@@ -47,12 +47,12 @@
 #ifndef NTSYNC_H
 #define NTSYNC_H
 
-#include <stddef.h>
-#include <stdint.h>
-
 #if !defined(__x86_64__) || !defined(__ELF__) || defined(__ILP32__)
 #error "libntsync.a is for x86-64 with the System V calling convention, 64-bit pointers and ELF; this target is another"
 #endif
+
+#include <stddef.h>
+#include <stdint.h>
 
 /* Rises with every change of a signature, an argument's meaning, a size, an answer or the layout of the tables. A host
  * compares it with ntsync_version() at its start, and with the version that it stored with saved tables. */
