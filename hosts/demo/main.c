@@ -1,114 +1,129 @@
-/* A plant on two clocks: the host's loop, the operator's acts, and the snapshot at the end. Any answer that the scenario
- * does not say makes the exit code 1. */
-#include "host.h"
+/* A plant on two simulated clocks: the operator's acts, and the snapshot at the end. Any answer that the scenario does not
+ * say makes the exit code 1. With --live: a short run by the system's own clocks instead. */
+#include "plant.h"
 
 #include <stdio.h>
+#include <string.h>
 
-enum { TICK = 5, END = 60, RECORDER = 4 };
+enum { TICK = 5, END = 60 };
 
 /* ---- the operator's acts */
 
-static void set_clock_back(host *h)
+static void set_clock_back(plant *p)
 {
-    h->clocks[NTSYNC_REALTIME] -= TICK;
-    say(h, "operator", "sets the real-time clock back by %d", TICK);
+    p->clocks[NTSYNC_REALTIME] -= TICK;
+    say(p, "operator", "sets the real-time clock back by %d", TICK);
 }
 
-static void close_manifold(host *h)
+static void close_manifold(plant *p)
 {
-    answered(h, "operator", "tries to close the manifold", ntsync_close(h->tables, NTSYNC_CELLS, h->plant.manifold),
+    answered(p, "operator", "tries to close the manifold", ntsync_close(p->host.tables, NTSYNC_CELLS, p->manifold),
              NTSYNC_BUSY);
 }
 
+/* The valve died in its sleep. Its wait is ended first, then the manifold is abandoned, and the standby valve gets it. */
+static void find_valve_dead(plant *p)
+{
+    say(p, "operator", "finds the valve dead, holding the manifold");
+    burial b = host_bury(&p->host, p->tasks[VALVE]);
+    say(p, "host", "buries the valve: wait ended %d, mutexes abandoned %u, woken %u", b.wait_ended, (unsigned)b.mutexes,
+        (unsigned)b.woken);
+    expect(p, "refusal", b.refusal, NTSYNC_DONE);
+    expect(p, "wait ended", (uint64_t)b.wait_ended, 1);
+    expect(p, "mutexes abandoned", b.mutexes, 1);
+    expect(p, "woken", b.woken, 1);
+}
+
 /* Both waits on it are served, and it is clear afterwards. */
-static void pulse_flush(host *h)
+static void pulse_flush(plant *p)
 {
-    changed(h, "operator", "pulses flush",
-            ntsync_pulse(h->tables, NTSYNC_CELLS, h->wake, NTSYNC_WAKE_CELLS, h->plant.flush), result(NTSYNC_DONE, 0, 2));
-    expect(h, "flush", ntsync_read_event(h->tables, NTSYNC_CELLS, h->plant.flush).signaled, 0);
+    changed(p, "operator", "pulses flush",
+            ntsync_pulse(p->host.tables, NTSYNC_CELLS, p->host.wake, NTSYNC_WAKE_CELLS, p->flush), result(NTSYNC_DONE, 0, 2));
+    expect(p, "flush", ntsync_read_event(p->host.tables, NTSYNC_CELLS, p->flush).signaled, 0);
 }
 
-/* No record is written for a cancelled wait: the host tells its task. */
-static void cancel_recorder(host *h)
+/* The second time there is no wait to end, and the recorder is not made ready once more. */
+static void cancel_recorder(plant *p)
 {
-    task *t = &h->tasks[RECORDER];
-    uint64_t ticket = t->ticket;
-    uint32_t answer = ntsync_cancel(h->tables, NTSYNC_CELLS, ticket);
-    answered(h, "operator", "cancels the recorder's wait", answer, NTSYNC_EINTR);
-    make_ready(h, t, (outcome){answer, 0, 1});
-    answered(h, "operator", "tries to cancel it again", ntsync_cancel(h->tables, NTSYNC_CELLS, ticket), NTSYNC_EINVAL);
+    task *t = p->tasks[RECORDER];
+    answered(p, "operator", "cancels the recorder's wait", host_cancel(&p->host, t), NTSYNC_EINTR);
+    answered(p, "operator", "tries to cancel it again", host_cancel(&p->host, t), NTSYNC_EINVAL);
+    expect(p, "ready tasks", p->host.ready_count, 1);
 }
 
-static void close_timer(host *h)
+static void close_timer(plant *p)
 {
-    answered(h, "operator", "closes the timer", ntsync_close(h->tables, NTSYNC_CELLS, h->plant.timer), NTSYNC_DONE);
+    answered(p, "operator", "closes the timer", ntsync_close(p->host.tables, NTSYNC_CELLS, p->timer), NTSYNC_DONE);
 }
 
-static void operate(host *h)
+static void operate(plant *p)
 {
-    switch (h->clocks[NTSYNC_MONOTONIC]) {
-    case 5: set_clock_back(h); break;
-    case 25: close_manifold(h); break;
-    case 45: pulse_flush(h); break;
-    case 55: cancel_recorder(h); break;
-    case END: close_timer(h); break;
+    switch (p->clocks[NTSYNC_MONOTONIC]) {
+    case 5: set_clock_back(p); break;
+    case 25: close_manifold(p); break;
+    case 35: find_valve_dead(p); break;
+    case 45: pulse_flush(p); break;
+    case 55: cancel_recorder(p); break;
+    case END: close_timer(p); break;
     default: break;
     }
 }
 
-/* ---- the host's loop */
+/* ---- the run */
 
-/* The library has no clock: the host tells it the time of both. */
-static void expire(host *h, uint32_t clock)
+static uint64_t simulated_now(void *world, uint32_t clock)
 {
-    ntsync_changed r = ntsync_expire(h->tables, NTSYNC_CELLS, h->wake, NTSYNC_WAKE_CELLS, clock, h->clocks[clock]);
-    expect(h, "expire", r.answer, NTSYNC_DONE);
-    wake_tasks(h, r.woken);
+    const plant *p = world;
+    return p->clocks[clock == NTSYNC_REALTIME ? NTSYNC_REALTIME : NTSYNC_MONOTONIC];
 }
 
-static void run(host *h)
+static void run(plant *p)
 {
-    run_ready(h);
-    while (h->clocks[NTSYNC_MONOTONIC] < END) {
-        h->clocks[NTSYNC_MONOTONIC] += TICK;
-        h->clocks[NTSYNC_REALTIME] += TICK;
-        expire(h, NTSYNC_MONOTONIC);
-        expire(h, NTSYNC_REALTIME);
-        run_ready(h);
-        operate(h);
-        run_ready(h);
+    host_run_ready(&p->host);
+    while (p->clocks[NTSYNC_MONOTONIC] < END) {
+        p->clocks[NTSYNC_MONOTONIC] += TICK;
+        p->clocks[NTSYNC_REALTIME] += TICK;
+        host_expire(&p->host);
+        host_run_ready(&p->host);
+        operate(p);
+        host_run_ready(&p->host);
     }
 }
 
-static void print_snapshot(host *h)
+static void print_snapshot(plant *p)
 {
     static uint8_t buffer[NTSYNC_SNAPSHOT_BYTES];
-    ntsync_written r = ntsync_snapshot(h->tables, NTSYNC_CELLS, buffer, sizeof buffer);
-    answered(h, "host", "takes a snapshot", r.answer, NTSYNC_DONE);
+    ntsync_written r = ntsync_snapshot(p->host.tables, NTSYNC_CELLS, buffer, sizeof buffer);
+    answered(p, "host", "takes a snapshot", r.answer, NTSYNC_DONE);
     fwrite(buffer, 1, r.length, stdout);
 }
 
-/* How far each task must have come: a task that was never woken gives no wrong answer by itself. */
-static void check_ends(host *h)
+/* How far each task must have come: a task that was never woken gives no wrong answer by itself. The valve's place is free
+ * for another task. */
+static void check_ends(plant *p)
 {
-    static const int steps[TASKS] = {5, 7, 4, 7, 4};
+    static const int steps[TASKS] = {5, 7, 3, 7, 4};
     for (int i = 0; i < TASKS; i++)
-        expect(h, h->tasks[i].name, (uint64_t)h->tasks[i].state, (uint64_t)steps[i]);
+        expect(p, p->tasks[i]->name, (uint64_t)p->tasks[i]->state, (uint64_t)steps[i]);
+    expect(p, "the valve's place", p->tasks[VALVE]->place, TASK_FREE);
+    expect(p, "next deadline", host_next_deadline(&p->host, NTSYNC_REALTIME), 2000000);
+    expect(p, "faults of the host", p->host.faults, 0);
 }
 
-int main(void)
+int main(int count, char **words)
 {
-    static host h;
-    if (ntsync_version() != NTSYNC_VERSION) {
+    static plant p;
+    if (count == 2 && strcmp(words[1], "--live") == 0)
+        return run_live() != 0;
+    if (!host_start(&p.host, simulated_now, &p)) {
         fprintf(stderr, "ntsync.h is version %d, the archive %u\n", NTSYNC_VERSION, (unsigned)ntsync_version());
         return 1;
     }
-    h.clocks[NTSYNC_REALTIME] = 1000000;
-    expect(&h, "init", ntsync_init(h.tables, NTSYNC_CELLS), NTSYNC_DONE);
-    build_plant(&h);
-    run(&h);
-    print_snapshot(&h);
-    check_ends(&h);
-    printf("%d failures\n", h.failures);
-    return h.failures != 0;
+    p.clocks[NTSYNC_REALTIME] = 1000000;
+    build_plant(&p);
+    run(&p);
+    print_snapshot(&p);
+    check_ends(&p);
+    printf("%d failures\n", p.failures);
+    return p.failures != 0;
 }

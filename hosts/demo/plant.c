@@ -1,41 +1,38 @@
 /* The objects of the plant and the tasks over them. */
-#include "host.h"
+#include "plant.h"
 
-static uint32_t created(host *h, const char *kind, const char *name, ntsync_created r)
+static uint32_t created(plant *p, const char *kind, const char *name, ntsync_created r)
 {
-    say(h, "plant", "%s %s: %s, handle %u", kind, name, answer_name(r.answer), (unsigned)r.handle);
-    expect(h, name, r.answer, NTSYNC_DONE);
-    h->object_names[r.handle] = name;
+    say(p, "plant", "%s %s: %s, handle %u", kind, name, ntsync_answer_name(r.answer), (unsigned)r.handle);
+    expect(p, name, r.answer, NTSYNC_DONE);
+    p->object_names[r.handle] = name;
     return r.handle;
 }
 
-static void create_objects(host *h)
+static void create_objects(plant *p)
 {
-    plant *p = &h->plant;
-    uint64_t *t = h->tables;
-    p->batches = created(h, "semaphore 0 of 4", "batches", ntsync_create_sem(t, NTSYNC_CELLS, 0, 4));
-    p->manifold = created(h, "mutex", "manifold", ntsync_create_mutex(t, NTSYNC_CELLS, 0, 0));
-    p->pressure = created(h, "manual event", "pressure", ntsync_create_event(t, NTSYNC_CELLS, 0, 1));
-    p->flush = created(h, "manual event", "flush", ntsync_create_event(t, NTSYNC_CELLS, 0, 1));
-    p->stop = created(h, "auto event", "stop", ntsync_create_event(t, NTSYNC_CELLS, 0, 0));
-    p->timer = created(h, "auto event", "timer", ntsync_create_event(t, NTSYNC_CELLS, 0, 0));
+    uint64_t *t = p->host.tables;
+    p->batches = created(p, "semaphore 0 of 4", "batches", ntsync_create_sem(t, NTSYNC_CELLS, 0, 4));
+    p->manifold = created(p, "mutex", "manifold", ntsync_create_mutex(t, NTSYNC_CELLS, 0, 0));
+    p->pressure = created(p, "manual event", "pressure", ntsync_create_event(t, NTSYNC_CELLS, 0, 1));
+    p->flush = created(p, "manual event", "flush", ntsync_create_event(t, NTSYNC_CELLS, 0, 1));
+    p->stop = created(p, "auto event", "stop", ntsync_create_event(t, NTSYNC_CELLS, 0, 0));
+    p->timer = created(p, "auto event", "timer", ntsync_create_event(t, NTSYNC_CELLS, 0, 0));
+    answered(p, "plant", "tries a semaphore 5 of 4", ntsync_create_sem(t, NTSYNC_CELLS, 5, 4).answer, NTSYNC_EINVAL);
 }
 
-/* Owner numbers are the host's own: here a task's place, from 1. */
-static void add_task(host *h, int place, const char *name, step_function *step)
+static void add_task(plant *p, int number, const char *name, step_function *step)
 {
-    h->tasks[place] = (task){.name = name, .step = step, .owner = (uint32_t)place + 1};
-    say(h, "plant", "task %s is owner %d", name, place + 1);
-    make_ready(h, &h->tasks[place], (outcome){NTSYNC_DONE, 0, 0});
+    p->tasks[number] = host_add(&p->host, name, step);
+    say(p, "plant", "task %s is owner %u", name, (unsigned)p->tasks[number]->owner);
 }
 
-void build_plant(host *h)
+void build_plant(plant *p)
 {
-    create_objects(h);
-    answered(h, "plant", "tries a semaphore 5 of 4", ntsync_create_sem(h->tables, NTSYNC_CELLS, 5, 4).answer, NTSYNC_EINVAL);
-    add_task(h, 0, "sensor", sensor_step);
-    add_task(h, 1, "pump", pump_step);
-    add_task(h, 2, "valve", valve_step);
-    add_task(h, 3, "standby", standby_step);
-    add_task(h, 4, "recorder", recorder_step);
+    create_objects(p);
+    add_task(p, SENSOR, "sensor", sensor_step);
+    add_task(p, PUMP, "pump", pump_step);
+    add_task(p, VALVE, "valve", valve_step);
+    add_task(p, STANDBY, "standby", standby_step);
+    add_task(p, RECORDER, "recorder", recorder_step);
 }
