@@ -26,7 +26,8 @@
  *   (xmm), none wider and no x87: an interrupt handler or kernel that calls it must save them.
  *   Memory: tables 22,280 bytes, wake list 768 bytes, snapshot buffer 32,768 bytes, all the host's. The archive has 14,619
  *   bytes of code and constants, no data, no bss.
- *   Stack at worst, in bytes, with the return address and the arguments that the caller pushes; there is no recursion:
+ *   Stack at worst, in bytes, with the return address and the arguments that the caller pushes, without what memcpy and
+ *   memset take below their return address; there is no recursion:
  *     ntsync_version 8, ntsync_init 40, ntsync_create_sem 432, ntsync_create_mutex 432, ntsync_create_event 432,
  *     ntsync_close 416, ntsync_read_sem 416, ntsync_read_mutex 416, ntsync_read_event 416, ntsync_post 808,
  *     ntsync_unlock 808, ntsync_kill_owner 808, ntsync_set 792, ntsync_reset 416, ntsync_pulse 808, ntsync_wait_any 1,616,
