@@ -66,8 +66,11 @@ typedef struct { uint64_t ticket; uint32_t answer, index; } ntsync_record;
 /* Record i of a wake list; i must be below the `woken` of the call that filled it. */
 static inline NTSYNC_USE_RESULT NTSYNC_NOT_NULL ntsync_record ntsync_record_at(const uint64_t *wake, uint32_t i)
 {
-    const uint64_t *cells = wake + (size_t)NTSYNC_RECORD_CELLS * i;
-    ntsync_record record = {cells[0], (uint32_t)cells[1], (uint32_t)cells[2]};
+    const size_t cells = NTSYNC_RECORD_CELLS, first = cells * i; /* no casts, which some C++ hosts have warnings for */
+    ntsync_record record;
+    record.ticket = wake[first];
+    record.answer = wake[first + 1] & UINT32_MAX;
+    record.index = wake[first + 2] & UINT32_MAX;
     return record;
 }
 
