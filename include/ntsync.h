@@ -135,6 +135,8 @@
 #define NTSYNC_ALTERS_TABLES NTSYNC_USE_RESULT NTSYNC_NOT_NULL NTSYNC_ACCESS(read_write, 1, 2) NTSYNC_CHECK_CELLS
 #define NTSYNC_WAKES NTSYNC_ALTERS_TABLES NTSYNC_ACCESS(write_only, 3, 4) NTSYNC_CHECK_WAKE
 #define NTSYNC_WAITS NTSYNC_ALTERS_TABLES NTSYNC_ACCESS(read_only, 3, 4)
+#define NTSYNC_WAITS_LIST NTSYNC_USE_RESULT NTSYNC_NOT_NULL_TABLES NTSYNC_ACCESS(read_write, 1, 2) NTSYNC_CHECK_CELLS \
+    NTSYNC_ACCESS(read_only, 3, 4)
 #define NTSYNC_WRITES_BUFFER NTSYNC_READS_TABLES NTSYNC_ACCESS(write_only, 3, 4) NTSYNC_CHECK_BYTES
 
 #ifdef __clang__ /* which else warns about diagnose_if under -Wpedantic, because gcc does not know it */
@@ -282,7 +284,10 @@ ntsync_written ntsync_snapshot(const uint64_t *tables, size_t cells, uint8_t *bu
 
 /* ---- the waits for hosts whose empty list is a null pointer: with n 0 the list is never passed on */
 
-static inline NTSYNC_USE_RESULT NTSYNC_NOT_NULL_TABLES ntsync_waited
+static inline ntsync_waited
+ntsync_wait_any_list(uint64_t *tables, size_t cells, const uint32_t *list, size_t n, uint32_t owner, uint32_t alert,
+                     uint32_t flags, uint32_t pad, uint64_t timeout, uint64_t time) NTSYNC_WAITS_LIST;
+static inline ntsync_waited
 ntsync_wait_any_list(uint64_t *tables, size_t cells, const uint32_t *list, size_t n, uint32_t owner, uint32_t alert,
                      uint32_t flags, uint32_t pad, uint64_t timeout, uint64_t time)
 {
@@ -290,7 +295,10 @@ ntsync_wait_any_list(uint64_t *tables, size_t cells, const uint32_t *list, size_
     return ntsync_wait_any(tables, cells, n == 0 ? &none : list, n, owner, alert, flags, pad, timeout, time);
 }
 
-static inline NTSYNC_USE_RESULT NTSYNC_NOT_NULL_TABLES ntsync_waited
+static inline ntsync_waited
+ntsync_wait_all_list(uint64_t *tables, size_t cells, const uint32_t *list, size_t n, uint32_t owner, uint32_t alert,
+                     uint32_t flags, uint32_t pad, uint64_t timeout, uint64_t time) NTSYNC_WAITS_LIST;
+static inline ntsync_waited
 ntsync_wait_all_list(uint64_t *tables, size_t cells, const uint32_t *list, size_t n, uint32_t owner, uint32_t alert,
                      uint32_t flags, uint32_t pad, uint64_t timeout, uint64_t time)
 {

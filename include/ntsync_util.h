@@ -15,6 +15,11 @@
 #define NTSYNC_BY_NAME
 #endif
 
+#ifdef __clang__ /* as in ntsync.h */
+#pragma clang diagnostic push
+#pragma clang diagnostic ignored "-Wgcc-compat"
+#endif
+
 #ifdef __cplusplus
 extern "C" {
 #endif
@@ -45,15 +50,16 @@ typedef struct NTSYNC_BY_NAME {
 } ntsync_wait;
 
 /* ntsync_wait_any and ntsync_wait_all, with their answers. */
-static inline NTSYNC_USE_RESULT NTSYNC_NOT_NULL ntsync_waited
-ntsync_wait_for_any(uint64_t *tables, size_t cells, const ntsync_wait *wait)
+static inline ntsync_waited ntsync_wait_for_any(uint64_t *tables, size_t cells, const ntsync_wait *wait) NTSYNC_ALTERS_TABLES;
+static inline ntsync_waited ntsync_wait_for_all(uint64_t *tables, size_t cells, const ntsync_wait *wait) NTSYNC_ALTERS_TABLES;
+
+static inline ntsync_waited ntsync_wait_for_any(uint64_t *tables, size_t cells, const ntsync_wait *wait)
 {
     return ntsync_wait_any_list(tables, cells, wait->list, wait->n, wait->owner, wait->alert, wait->clock, 0, wait->deadline,
                                 wait->now);
 }
 
-static inline NTSYNC_USE_RESULT NTSYNC_NOT_NULL ntsync_waited
-ntsync_wait_for_all(uint64_t *tables, size_t cells, const ntsync_wait *wait)
+static inline ntsync_waited ntsync_wait_for_all(uint64_t *tables, size_t cells, const ntsync_wait *wait)
 {
     return ntsync_wait_all_list(tables, cells, wait->list, wait->n, wait->owner, wait->alert, wait->clock, 0, wait->deadline,
                                 wait->now);
@@ -172,6 +178,10 @@ static inline NTSYNC_USE_RESULT uint32_t ntsync_wait_status(uint32_t answer, uin
 
 #ifdef __cplusplus
 }
+#endif
+
+#ifdef __clang__
+#pragma clang diagnostic pop
 #endif
 
 #endif

@@ -46,6 +46,15 @@
 #define PROGRAM                                                                          \
     ntsync_wait w = {.list = list, .n = 1, .owner = 6, .timeout = now + 5, .time = now}; \
     return ntsync_wait_for_any(TABLES, &w).answer;
+#elif CASE == 16 /* bytes in place of the tables' cells, by name */
+#define PROGRAM                                                                          \
+    ntsync_wait w = {.list = list, .n = 1, .owner = 6, .deadline = now + 5, .now = now}; \
+    return ntsync_wait_for_any(h->tables, sizeof h->tables, &w).answer;
+#elif CASE == 17 /* the same, and all by position */
+#define PROGRAM \
+    return ntsync_wait_all_list(h->tables, sizeof h->tables, list, 1, 6, 0, NTSYNC_MONOTONIC, 0, now + 5, now).answer;
+#elif CASE == 18 /* a null list that is said to have a handle; gcc alone */
+#define PROGRAM return ntsync_wait_any_list(TABLES, NULL, 1, 6, 0, NTSYNC_MONOTONIC, 0, now + 5, now).answer;
 #endif
 
 typedef struct { uint64_t tables[NTSYNC_CELLS], wake[NTSYNC_WAKE_CELLS]; } host;
