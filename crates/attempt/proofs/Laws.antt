@@ -89,9 +89,9 @@ module _ (t : List ℕ) (asking : ℕ) where
   pub taken-all : (list : List ℕ) {dead : Bool} {a : ℕ} {u : List ℕ} → u ≡ acquireFirst t asking list (length list) → dead ≡ abandonedFirst t asking list (length list) → a ≡ cond dead 4 0 → record { served = true; answer = a; index = 0; tables = u } ≡ takeAll t asking list
   taken-all list q d e = rw (e, d, q)
 
-  pub alert-took : (alert n : ℕ) {b : Bool} → b ≡ signaledAt t asking alert → b ≡ true → takeOne t asking alert n ≡ byAlert t asking alert n
+  pub alert-took : (alert n : ℕ) {b : Bool} {x : Tried} → b ≡ signaledAt t asking alert → b ≡ true → x ≡ takeOne t asking alert n → x ≡ byAlert t asking alert n
   unfolding byAlert
-  alert-took alert n e y = rw (sym e, y)
+  alert-took alert n e y q = q ∙ rw (sym e, y)
 
   pub alert-missed : (alert n : ℕ) {b : Bool} → b ≡ signaledAt t asking alert → b ≡ false → missed t ≡ byAlert t asking alert n
   unfolding byAlert

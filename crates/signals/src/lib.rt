@@ -37,10 +37,11 @@ fn apply(t: &mut [u64], wake: &mut [u64], h: u64, previous: u32, c: Change) -> C
     }
     tables::store(t, h, c.next);
     let k = walk::wake(t, wake, h);
+    let woken = k as u32;
     Changed {
         answer: 0,
         previous,
-        woken: k as u32,
+        woken,
     }
 }
 
@@ -110,7 +111,7 @@ pub fn expire(t: &mut [u64], wake: &mut [u64], clock: u64, time: u64) -> Changed
             woken: 0,
         };
     }
-    let k = walk::end_due(t, wake, clock, time);
+    let k = ending::end_due(t, wake, clock, time);
     Changed {
         answer: 0,
         previous: 0,

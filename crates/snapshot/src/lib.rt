@@ -214,7 +214,7 @@ fn put_waits(buf: &mut [u8], at: usize, t: &[u64]) -> usize
     let mut last: u64 = 0;
     let mut turn: usize = 0;
     while turn < tables::WAIT_PLACES {
-        let p = walk::next_wait(t, last);
+        let p = ending::next_wait(t, last);
         if tables::WAIT_PLACES <= p {
             return end;
         }

@@ -103,7 +103,8 @@ fn act(
     ensures { λ r. ⌜ waitedBy r (now (t .exit)) ≡ actCells mode (now (list .entry)) asking flags alert timeout time (now (t .entry)) nothingLent ⌝ }
 {
     let a = attempt::try_list(t, mode, asking, alert, list);
-    if a.served {
+    let served = a.served;
+    if served {
         return Waited {
             answer: a.answer,
             index: a.index,

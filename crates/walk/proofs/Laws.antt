@@ -1,76 +1,24 @@
--- What the queue's definitions come to on each way through the code.
+-- What the walk's definitions come to on each way through the code.
 use Prim.Native.Nat.{ℕ, suc, _+_, _-_, _<_, _≤_}
 use native.Mathlib.Omega.{arith}
 use mathlib.Core.Path.{_≡_, refl, sym, ap, _∙_}
-use mathlib.Core.Bool.{Bool, true, false, not, _&&_, cond}
+use mathlib.Core.Bool.{Bool, true, false, not, cond}
 use mathlib.Core.List.{List}
-use lib.Dec.{eqb, ltb}
+use lib.Dec.{ltb}
 use borrow.Author.Tests.{lt-ltb, le-ltb}
 use Rattle.model.specs.Sizes.{waitPlaces}
-use Rattle.model.specs.Calls.{timeUp}
 use Rattle.model.proofs.Logic.{byBool, clash, not-true, not-false}
-use Rattle.cells.specs.Fold.{foldBelow, allBelow}
+use Rattle.cells.specs.Fold.{allBelow}
 use lib.ListN.{length, getD, take}
 use Rattle.model.specs.Layout.{tableLength}
 use Rattle.refine.proofs.Validity.{list-length}
 use Rattle.cells.specs.Attempt.{signaledAt, Tried, lookAny, lookAll, takeOne, takeAll, byAlert, tryAny, anyAt, alertOf, allAt, tryAt}
 use Rattle.attempt.proofs.Laws.{SignaledIn, all-stop, all-on, all-end, any-took, any-left, all-took, all-left, list-any, list-all, alert-same, any-same}
-use Rattle.cells.specs.Waits.{ticketAt, modeAt, ownerAt, clockAt, timeoutAt, countAt, alertAt, listOf, better, lowest, nextWait, namesAt, clearWait, putRecord}
-use Rattle.cells.specs.Walk.{dueAt, Walked, walked, Concern, report, settled, settle, visitCells, walkCells, endCells}
-use Rattle.cells.proofs.Fold.{fold-none, fold-more}
-
-module _ (t : List ℕ) (passes : Bool) (best i : ℕ) where
-  pub better-fails : not passes ≡ true → best ≡ better t (λ _. passes) best i
-  unfolding better
-  better-fails e = rw (not-true passes e)
-
-  pub better-first : not passes ≡ false → waitPlaces ≤ best → i ≡ better t (λ _. passes) best i
-  unfolding better
-  better-first e h = rw (not-false passes e, le-ltb best waitPlaces h)
-
-  module _ (e : not passes ≡ false) (h : best < waitPlaces) {here there : ℕ} (a : here ≡ ticketAt t i) (b : there ≡ ticketAt t best) where
-    pub better-lower : here < there → i ≡ better t (λ _. passes) best i
-    unfolding better
-    better-lower l = rw (not-false passes e, lt-ltb best waitPlaces h, sym a, sym b, lt-ltb here there l)
-
-    pub better-not : there ≤ here → best ≡ better t (λ _. passes) best i
-    unfolding better
-    better-not l = rw (not-false passes e, lt-ltb best waitPlaces h, sym a, sym b, le-ltb here there l)
-
-better-test : (t : List ℕ) (ok : ℕ → Bool) (best i : ℕ) → better t (λ _. ok i) best i ≡ better t ok best i
-unfolding better
-better-test t ok best i = refl
-
--- one more place
-module _ (t : List ℕ) (ok : ℕ → Bool) where
-  pub lowest-start : waitPlaces ≡ foldBelow (better t ok) waitPlaces 0
-  lowest-start = fold-none (better t ok) waitPlaces
-
-  pub lowest-more : (i best : ℕ) (passes : Bool) {next : ℕ} → best ≡ foldBelow (better t ok) waitPlaces i → passes ≡ ok i → next ≡ better t (λ _. passes) best i → next ≡ foldBelow (better t ok) waitPlaces (i + 1)
-  lowest-more i best passes a p b = b ∙ ap (λ (q : Bool). better t (λ _. q) best i) p ∙ better-test t ok best i ∙ ap (λ (k : ℕ). better t ok k i) a ∙ fold-more (better t ok) waitPlaces i
-
-pub due-is : (t : List ℕ) (clock time p : ℕ) {ticket own timeout : ℕ} {up : Bool} → ticket ≡ ticketAt t p → own ≡ clockAt t p → timeout ≡ timeoutAt t p → up ≡ timeUp timeout time → (ltb 0 ticket && (eqb own clock && up)) ≡ dueAt t clock time p
-unfolding dueAt
-due-is t clock time p a b c d = rw (d, a, b, c)
-
--- ending the waits that are due: one turn of the loop, k of them told
-module _ (clock time : ℕ) (t wake : List ℕ) (k : ℕ) where
-  end-turn : (k < waitPlaces) → endCells (waitPlaces - k) clock time (walked k t wake)
-      ≡ cond (ltb (lowest t (dueAt t clock time)) waitPlaces) (endCells (waitPlaces - (k + 1)) clock time (report (lowest t (dueAt t clock time)) 5 0 t (walked k t wake))) (walked k t wake)
-  unfolding endCells
-  end-turn l = let e : waitPlaces - k ≡ suc (waitPlaces - (k + 1)) = omega arith in rw e
-
-  module _ (l : k < waitPlaces) {p : ℕ} (q : p ≡ lowest t (dueAt t clock time)) where
-    pub end-stop : waitPlaces ≤ p → endCells (waitPlaces - k) clock time (walked k t wake) ≡ walked k t wake
-    end-stop h = end-turn l ∙ rw (sym q, le-ltb p waitPlaces h)
-
-    pub end-more : {ticket : ℕ} {u v : List ℕ} → p < waitPlaces → ticket ≡ ticketAt t p → u ≡ clearWait t p → v ≡ putRecord wake k ticket 5 0 → endCells (waitPlaces - k) clock time (walked k t wake) ≡ endCells (waitPlaces - (k + 1)) clock time (walked (k + 1) u v)
-    unfolding report
-    end-more h a b c = end-turn l ∙ rw (sym q, lt-ltb p waitPlaces h, b, c, a)
-
-  pub end-last : waitPlaces ≤ k → endCells (waitPlaces - k) clock time (walked k t wake) ≡ walked k t wake
-  unfolding endCells
-  end-last h = let e : waitPlaces - k ≡ 0 = omega arith in rw e
+use Rattle.cells.specs.Waits.{ticketAt, modeAt, ownerAt, countAt, alertAt, listOf, nextWait, namesAt, clearWait, putRecord}
+use Rattle.cells.specs.Walk.{Walked, walked, Concern, report, settled, settle, visitCells, walkCells}
+use Rattle.walk.specs.declared.By.{By}
+use Rattle.walk.specs.declared.By.the-variants.{Any, Alert, All}
+use Rattle.walk.specs.Values.{tryBy}
 
 -- the attempt of the wait at place p
 module _ (t : List ℕ) (p : ℕ) where
@@ -99,21 +47,20 @@ module _ (r : Tried) (p k ticket : ℕ) (wake : List ℕ) where
   pub settled-left : {u v : List ℕ} → not (r .served) ≡ false → u ≡ clearWait (r .tables) p → v ≡ putRecord wake k ticket (r .answer) (r .index) → walked (k + 1) u v ≡ settled r p k ticket wake
   settled-left e a b = rw (not-false (r .served) e, a, b)
 
--- settling, after the attempt and by the ticket read before it; one that failed altered nothing
+-- an attempt that fails alters nothing
+by-same : (t : List ℕ) (p : ℕ) (by : By) → (tryBy by t p) .served ≡ false → (tryBy by t p) .tables ≡ t
+by-same t p Any e = any-same t (ownerAt t p) (alertAt t p) (listOf t p) e
+by-same t p Alert e = alert-same t (ownerAt t p) (alertAt t p) (length (listOf t p)) e
+by-same t p All e = clash refl e
+
+-- settling, after the attempt and by the ticket read before it
 module _ (t wake : List ℕ) (p k : ℕ) where
   settle-is : (r : Tried) {x : Tried} {ticket : ℕ} {y : Walked} → (r .served ≡ false → r .tables ≡ t) → ticket ≡ ticketAt t p → x ≡ r → y ≡ settled x p k ticket wake → y ≡ settle r p (walked k t wake)
   unfolding settle report
   settle-is r m a e y = y ∙ rw (e, a) (byBool (r .served) (λ b. rw b) (λ n. rw (n, m n)))
 
-  module _ {x : Tried} {ticket : ℕ} {y : Walked} (a : ticket ≡ ticketAt t p) where
-    pub settle-any : x ≡ anyAt t p → y ≡ settled x p k ticket wake → y ≡ settle (anyAt t p) p (walked k t wake)
-    settle-any e = settle-is (anyAt t p) (any-same t (ownerAt t p) (alertAt t p) (listOf t p)) a e
-
-    pub settle-alert : x ≡ alertOf t p → y ≡ settled x p k ticket wake → y ≡ settle (alertOf t p) p (walked k t wake)
-    settle-alert e = settle-is (alertOf t p) (alert-same t (ownerAt t p) (alertAt t p) (length (listOf t p))) a e
-
-    pub settle-all : x ≡ allAt t p → y ≡ settled x p k ticket wake → y ≡ settle (allAt t p) p (walked k t wake)
-    settle-all e = settle-is (allAt t p) (λ n. clash refl n) a e
+  pub settle-by : (by : By) {x : Tried} {ticket : ℕ} {y : Walked} → ticket ≡ ticketAt t p → x ≡ tryBy by t p → y ≡ settled x p k ticket wake → y ≡ settle (tryBy by t p) p (walked k t wake)
+  settle-by by a e = settle-is (tryBy by t p) (by-same t p by) a e
 
 counted : (b : Bool) (k : ℕ) (t u wake v : List ℕ) → cond b (walked (k + 1) u v) (walked k t wake) .count ≤ k + 1
 counted true k t u wake v = omega arith

@@ -1,4 +1,3 @@
-use mathlib.Core.Path.{_∙_}
 use Rattle.attempt.proofs.Laws.{alert-took, alert-missed}
 use native.Mathlib.Omega.{arith}
 use borrow.Author.Needs.{needs}
@@ -23,7 +22,7 @@ same-length c = search needs
 
 -- src/lib.rt:126:9
 returns : tie.Need-returns
-returns c = let a = c .before .before .before .before .before .before .before .before .args in c .before .before .take-one .ensures ∙ alert-took (a .t .now) (a .asking) (a .alert) (a .n) (c .before .before .before .before .before .signaled .ensures) (c .before .before .before .before .if1 .taken)
+returns c = let a = c .before .before .before .before .before .before .before .before .args in alert-took (a .t .now) (a .asking) (a .alert) (a .n) (c .before .before .before .before .before .signaled .ensures) (c .before .before .before .before .if1 .taken) (c .before .before .take-one .ensures)
 
 -- src/lib.rt:120:1
 same-length-2 : tie.Need-same-length-2

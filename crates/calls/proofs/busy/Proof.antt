@@ -1,4 +1,5 @@
-use Rattle.cells.proofs.Fold.{fold-none, fold-more}
+use Rattle.calls.proofs.Laws.{busy-more}
+use Rattle.cells.proofs.Fold.{fold-none}
 use Rattle.cells.specs.Calls.{busyAt}
 use Rattle.cells.specs.Fold.{someBelow}
 use Rattle.model.specs.Sizes.{waitPlaces}
@@ -37,7 +38,7 @@ loop-less c = search needs
 
 -- src/lib.rt:72:5
 loop-again : tie.Need-loop-again Inv-loop μ-loop
-loop-again c = let a = c .before .before .before .before .args in (search needs, cc (fold-more (λ (b : Bool) q. b || busyAt (a .t .now) (a .h) q) false (c .before .before .loop .p)))
+loop-again c = let a = c .before .before .before .before .args in (search needs, busy-more (a .t .now) (a .h) (c .before .before .loop .p) (c .before .before .loop .inv .1) (c .busy-at .ensures))
 
 -- src/lib.rt:66:1
 returns : tie.Need-returns Inv-loop μ-loop

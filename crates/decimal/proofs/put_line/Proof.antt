@@ -33,7 +33,7 @@ same-length c = search needs
 
 -- src/lib.rt:36:1
 returns : tie.Need-returns
-returns c = let a = c .before .before .before .before .before .before .before .before .before .before .before .before .before .before .before .args in let x : List ℕ = a .key .now in let y : List ℕ = digitsUpTo 19 (a .n) in let z : List ℕ = 10 ∷ [] in then-wrote (a .buf .now) (a .at) x (y ++ z) (c .before .before .before .before .before .before .before .before .before .before .before .put-text .ensures) (then-wrote (c .before .before .before .before .before .before .before .before .before .before .before .put-text .last .0) (c .before .before .before .before .before .before .before .before .before .before .before .put-text .result) y z (c .before .before .before .before .before .before .before .put-number .ensures) (c .before .before .put-text2 .ensures))
+returns c = let a = c .before .before .before .before .before .before .before .before .before .before .before .before .before .before .before .args in let x : List ℕ = a .key .now in let y : List ℕ = digitsUpTo 19 (a .n) in let z : List ℕ = 10 ∷ [] in then-wrote (a .buf .now) (a .at) x (y ++ z) (c .before .before .before .before .before .before .before .before .before .before .before .put-text .ensures) (then-wrote (c .before .before .before .before .before .before .before .before .before .before .before .put-text .last .0) (c .before .before .before .before .before .before .before .before .before .before .before .put-text .result) y z (c .before .before .before .before .before .before .before .put-number .ensures) {last = c .before .before .put-text2 .result} (c .before .before .put-text2 .ensures))
 
 pub put-line-spec : {M : Type 1} → statement M
 put-line-spec =

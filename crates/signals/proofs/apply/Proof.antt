@@ -22,8 +22,8 @@ wake-requires : tie.Need-wake-requires
 wake-requires c κs = search needs
 
 -- src/lib.rt:42:16
-cast-t15 : tie.Need-cast-t15
-cast-t15 c = omega (arith, c .before .before .before .before .wake .ensures .1)
+cast-woken : tie.Need-cast-woken
+cast-woken c = omega (arith, c .before .before .before .before .wake .ensures .1)
 
 -- src/lib.rt:26:1
 same-length : tie.Need-same-length
@@ -40,4 +40,4 @@ returns-2 c = let a = c .before .before .before .before .before .before .before 
 pub apply-spec : {M : Type 1} → statement M
 apply-spec =
     tie.close
-    (tie.spec returns store-requires wake-requires cast-t15 same-length same-length-2 returns-2)
+    (tie.spec returns store-requires wake-requires cast-woken same-length same-length-2 returns-2)

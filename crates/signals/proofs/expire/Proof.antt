@@ -5,7 +5,7 @@ use Rattle.signals.proofs.expire.Statement.{statement}
 use Rattle.signals.proofs.expire.Tie as tie
 use Rattle.signals.proofs.expire.Reads as reads
 use Rattle.signals.proofs.expire.Lts as lts
-use Rattle.walk.proofs.end_due.Reads as end-due-reads
+use Rattle.ending.proofs.end_due.Reads as end-due-reads
 
 -- src/lib.rt:106:9
 returns : tie.Need-returns

@@ -16,7 +16,7 @@ use Rattle.snapshot.proofs.put_waits.Reads as reads
 use Rattle.snapshot.proofs.put_waits.Lts as lts
 use Rattle.snapshot.proofs.put_wait.Reads as put-wait-reads
 use Rattle.tables.proofs.ticket_at.Reads as ticket-at-reads
-use Rattle.walk.proofs.next_wait.Reads as next-wait-reads
+use Rattle.ending.proofs.next_wait.Reads as next-wait-reads
 
 abbrev Inv-loop : tie.InvT-loop
 Inv-loop buf₀ at t end₀ last₀ turn₀ buf end last turn = (turn ≤ waitPlaces) × (length buf ≡ length buf₀) × Room buf end (waitsTextFrom (waitPlaces - turn) t last) × ((r : ℕ) (e : List ℕ) → Wrote buf end (waitsTextFrom (waitPlaces - turn) t last) r e → Wrote buf₀ at (waitsTextFrom waitPlaces t 0) r e)

@@ -10,27 +10,21 @@ use Rattle.tables.proofs.alert_at.Reads as alert-at-reads
 use Rattle.tables.proofs.count_at.Reads as count-at-reads
 use Rattle.tables.proofs.owner_at.Reads as owner-at-reads
 
--- src/lib.rt:129:9
 owner-at-requires : tie.Need-owner-at-requires
 owner-at-requires c κs = search needs
 
--- src/lib.rt:130:9
 alert-at-requires : tie.Need-alert-at-requires
 alert-at-requires c κs = search needs
 
--- src/lib.rt:131:9
 count-at-requires : tie.Need-count-at-requires
 count-at-requires c κs = search needs
 
--- src/lib.rt:132:5
 by-alert-requires : tie.Need-by-alert-requires
 by-alert-requires c κs = search needs
 
--- src/lib.rt:125:1
 same-length : tie.Need-same-length
 same-length c = search needs
 
--- src/lib.rt:125:1
 returns : tie.Need-returns
 returns c = let a = c .before .before .before .before .before .before .before .before .before .before .before .args in alerted-at (a .t .now) (a .p) (c .before .before .before .before .before .before .before .before .before .before .before .pre .1) (c .before .before .before .before .before .before .before .before .before .before .before .pre .0) (c .before .before .before .before .before .before .before .before .owner-at .ensures) (c .before .before .before .before .before .before .alert-at .ensures) (c .before .before .before .before .count-at .ensures) (c .before .before .by-alert .ensures)
 

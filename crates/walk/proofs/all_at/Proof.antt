@@ -13,35 +13,27 @@ use Rattle.tables.proofs.copy_list.Reads as copy-list-reads
 use Rattle.tables.proofs.count_at.Reads as count-at-reads
 use Rattle.tables.proofs.owner_at.Reads as owner-at-reads
 
--- src/lib.rt:155:9
 owner-at-requires : tie.Need-owner-at-requires
 owner-at-requires c κs = search needs
 
--- src/lib.rt:156:9
 count-at-requires : tie.Need-count-at-requires
 count-at-requires c κs = search needs
 
--- src/lib.rt:157:16
 copy-list-requires : tie.Need-copy-list-requires
 copy-list-requires c κs = search needs
 
--- src/lib.rt:158:35
 array-share-prefix-list : tie.Need-array-share-prefix-list
 array-share-prefix-list c = omega (arith, count-le (c .before .before .before .before .before .before .before .before .args .t .now) (c .before .before .before .before .before .before .before .before .args .p), c .before .before .before .count-at .ensures, c .before .copy-list .ensures .0)
 
--- src/lib.rt:158:35
 slice-aggregate-take-list : tie.Need-slice-aggregate-take-list
 slice-aggregate-take-list c = sym (length-take-le (c .before .before .before .before .count-at .result) (c .before .before .copy-list .result) (omega (arith, count-le (c .before .before .before .before .before .before .before .before .before .args .t .now) (c .before .before .before .before .before .before .before .before .before .args .p), c .before .before .before .before .count-at .ensures, c .before .before .copy-list .ensures .0)))
 
--- src/lib.rt:158:5
 take-list-requires : tie.Need-take-list-requires
 take-list-requires c κs = search needs
 
--- src/lib.rt:151:1
 same-length : tie.Need-same-length
 same-length c = search needs
 
--- src/lib.rt:151:1
 returns : tie.Need-returns
 returns c = let a = c .before .before .before .before .before .before .before .before .before .before .before .before .args in taken-at (a .t .now) (a .p) (c .before .before .before .before .before .copy-list .result) (c .before .before .before .before .before .before .before .before .before .owner-at .ensures) (c .before .before .before .before .before .before .before .count-at .ensures) (c .before .before .before .before .before .copy-list .ensures .1) (c .before .before .take-list .ensures)
 

@@ -6,33 +6,26 @@ use Rattle.walk.proofs.settle.Statement.{statement}
 use Rattle.walk.proofs.settle.Tie as tie
 use Rattle.walk.proofs.settle.Reads as reads
 use Rattle.walk.proofs.settle.Lts as lts
-use Rattle.walk.proofs.leave.Reads as leave-reads
+use Rattle.ending.proofs.leave.Reads as leave-reads
 
--- src/lib.rt:167:9
 returns : tie.Need-returns
 returns c = let a = c .before .before .before .before .args in settled-not (triedBy (a .a) (a .t .now)) (a .p) (a .told) (a .ticket) (a .wake .now) (c .if1 .taken)
 
--- src/lib.rt:169:34
 cast-leave : tie.Need-cast-leave
 cast-leave c = search needs
 
--- src/lib.rt:169:5
 leave-requires : tie.Need-leave-requires
 leave-requires c κs = search needs
 
--- src/lib.rt:170:5
 add-result : tie.Need-add-result
 add-result c = search needs
 
--- src/lib.rt:162:1
 same-length : tie.Need-same-length
 same-length c = search needs
 
--- src/lib.rt:162:1
 same-length-2 : tie.Need-same-length-2
 same-length-2 c = search needs
 
--- src/lib.rt:162:1
 returns-2 : tie.Need-returns-2
 returns-2 c = let a = c .before .before .before .before .before .before .before .before .before .before .before .before .args in settled-left (triedBy (a .a) (a .t .now)) (a .p) (a .told) (a .ticket) (a .wake .now) (c .before .before .before .before .before .before .before .before .if1 .left) (c .before .before .before .before .leave .ensures .0) (c .before .before .before .before .leave .ensures .1)
 
