@@ -104,7 +104,7 @@ impl Tables {
         self.wait_all(list, owner, 0, 0, 0, NEVER, 0)
     }
 
-    // ---- for one handle or two, which numbers tell: a list costs a proof more
+    // ---- one handle or two, as numbers: each list in a case costs the proof more than the call does
 
     pub fn any(self, handle: u32, owner: u32) -> Self {
         self.any_of(&[handle], owner)
@@ -122,7 +122,7 @@ impl Tables {
         self.all_of(&[first, second], owner)
     }
 
-    // ---- for any
+    // ---- with an alert or an end
 
     pub fn any_alert(self, handle: u32, owner: u32, alert: u32) -> Self {
         self.wait_any(&[handle], owner, alert, 0, 0, NEVER, 0)

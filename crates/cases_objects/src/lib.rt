@@ -1,9 +1,10 @@
-// Making, objects and handles, at the borders of their numbers.
+// The calls that neither wait nor wake: making, objects and handles at the borders of their numbers; the snapshot.
 mod again;
 mod full;
 mod limits;
 mod making;
 mod queued;
+mod snapshots;
 
 pub fn cases() {
     making::cases();
@@ -11,4 +12,8 @@ pub fn cases() {
     limits::cases();
     again::cases();
     queued::cases();
+}
+
+pub fn snapshot_cases() {
+    snapshots::cases();
 }

@@ -11,5 +11,5 @@ fn main() {
     cases_damage::cases();
     cases_waits::cases();
     cases_refused::cases();
-    cases_snapshots::cases();
+    cases_objects::snapshot_cases();
 }

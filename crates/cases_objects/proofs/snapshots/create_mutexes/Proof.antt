@@ -1,10 +1,10 @@
 use native.Mathlib.Omega.{arith}
 use borrow.Author.Needs.{needs}
 use Prim.Native.Nat.{ℕ, _≤_, _-_}
-use Rattle.cases_snapshots.proofs.snapshots.create_mutexes.Statement.{statement}
-use Rattle.cases_snapshots.proofs.snapshots.create_mutexes.Tie as tie
-use Rattle.cases_snapshots.proofs.snapshots.create_mutexes.Reads as reads
-use Rattle.cases_snapshots.proofs.snapshots.create_mutexes.Lts as lts
+use Rattle.cases_objects.proofs.snapshots.create_mutexes.Statement.{statement}
+use Rattle.cases_objects.proofs.snapshots.create_mutexes.Tie as tie
+use Rattle.cases_objects.proofs.snapshots.create_mutexes.Reads as reads
+use Rattle.cases_objects.proofs.snapshots.create_mutexes.Lts as lts
 
 abbrev Inv-loop : tie.InvT-loop
 Inv-loop t₀ i₀ t i = i ≤ 127

@@ -2,10 +2,10 @@
 use native.Mathlib.Omega.{arith}
 use borrow.Author.Needs.{needs}
 use Rattle.io.proofs.Counting.{front}
-use Rattle.cases_snapshots.proofs.snapshots.front.Statement.{statement}
-use Rattle.cases_snapshots.proofs.snapshots.front.Tie as tie
-use Rattle.cases_snapshots.proofs.snapshots.front.Reads as reads
-use Rattle.cases_snapshots.proofs.snapshots.front.Lts as lts
+use Rattle.cases_objects.proofs.snapshots.front.Statement.{statement}
+use Rattle.cases_objects.proofs.snapshots.front.Tie as tie
+use Rattle.cases_objects.proofs.snapshots.front.Reads as reads
+use Rattle.cases_objects.proofs.snapshots.front.Lts as lts
 use Rattle.call_lines.proofs.print.text.Reads as text-reads
 
 returns : tie.Need-returns

@@ -1,12 +1,12 @@
--- `cases_snapshots::snapshots::is_kept` meets its contract: the search of `Laws`, at the sentinel 35.
+-- `cases_objects::snapshots::is_kept` meets its contract: the search of `Laws`, at the sentinel 35.
 use Prim.Native.Nat.{_-_}
 use lib.ListN.{length}
 use borrow.Author.Needs.{needs}
 use Rattle.call_lines.proofs.Laws.{Passed, passed-none, passed-more, all-kept, one-altered}
-use Rattle.cases_snapshots.proofs.snapshots.is_kept.Statement.{statement}
-use Rattle.cases_snapshots.proofs.snapshots.is_kept.Tie as tie
-use Rattle.cases_snapshots.proofs.snapshots.is_kept.Reads as reads
-use Rattle.cases_snapshots.proofs.snapshots.is_kept.Lts as lts
+use Rattle.cases_objects.proofs.snapshots.is_kept.Statement.{statement}
+use Rattle.cases_objects.proofs.snapshots.is_kept.Tie as tie
+use Rattle.cases_objects.proofs.snapshots.is_kept.Reads as reads
+use Rattle.cases_objects.proofs.snapshots.is_kept.Lts as lts
 
 abbrev Inv-loop : tie.InvT-loop
 Inv-loop buffer from i₀ i = Passed 35 buffer from i

@@ -1,6 +1,0 @@
-// Snapshots.
-mod snapshots;
-
-pub fn cases() {
-    snapshots::cases();
-}
