@@ -16,11 +16,12 @@ use Rattle.cells.specs.Fold.{foldBelow}
 use Rattle.cells.proofs.Fold.{fold-none, fold-more}
 use Rattle.model.specs.Basics.{bit}
 use Rattle.cells.specs.Objects.{Fields, fieldsAt}
-use Rattle.cells.specs.Snapshot.{semaphoreText, mutexText, eventText, fieldsText, objectsTextBelow, objectTotal, waitTotal, listTextBelow, modeTextOf, clockTextOf, waitLines, waitTextAt, waitsTextFrom, snapshotOf}
+use Rattle.cells.specs.Snapshot.{semaphoreText, mutexText, eventText, fieldsText, objectsTextBelow, objectTotal, waitTotal, listTextBelow, waitLines, waitTextAt, waitsTextFrom, snapshotOf}
 use Rattle.cells.specs.Waits.{nextTicket, ticketAt, modeAt, ownerAt, clockAt, timeoutAt, alertAt, listOf, nextWait}
 use Rattle.model.specs.Sizes.{objectPlaces, waitPlaces}
 use Rattle.decimal.specs.Text.{Room, Wrote}
 use Rattle.decimal.proofs.Laws.{then-room, then-wrote}
+use Rattle.snapshot.specs.Texts.{wordText}
 
 -- nothing written
 pub wrote-none : (buf : List ℕ) (at : ℕ) → Wrote buf at [] at buf
@@ -71,18 +72,12 @@ module _ (h : ℕ) (x : Fields) where
   text-empty a b c = rw (ne-eqb (x .kind) 1 a, ne-eqb (x .kind) 2 b, ne-eqb (x .kind) 3 c)
 
 -- a word for a cell: 0 or not
-module _ (n : ℕ) where
-  pub mode-any : n ≡ 0 → modeTextOf n ≡ ascii "mode=any\n"
-  mode-any e = rw e
+module _ (n : ℕ) (x y : List ℕ) where
+  pub word-zero : n ≡ 0 → wordText n x y ≡ x
+  word-zero e = rw e
 
-  pub mode-all : (n ≡ 0 → ⊥) → modeTextOf n ≡ ascii "mode=all\n"
-  mode-all e = rw (ne-eqb n 0 e)
-
-  pub clock-mono : n ≡ 0 → clockTextOf n ≡ ascii "clock=mono\n"
-  clock-mono e = rw e
-
-  pub clock-real : (n ≡ 0 → ⊥) → clockTextOf n ≡ ascii "clock=real\n"
-  clock-real e = rw (ne-eqb n 0 e)
+  pub word-other : (n ≡ 0 → ⊥) → wordText n x y ≡ y
+  word-other e = rw (ne-eqb n 0 e)
 
 -- counting
 bit-low : (b : Bool) → bit b ≤ 1
