@@ -1,4 +1,4 @@
-//! The figures as tables in Markdown, for docs/BENCH.md.
+//! The figures as tables in Markdown, for docs/BENCH-ALL.md.
 
 use crate::measure::{fastest, Count};
 use crate::scenarios::{Scenario, Start};
