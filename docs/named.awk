@@ -5,8 +5,8 @@
 #   after a crate                  a function, constant or type there: "kinds `held_by`" (not after the words "cells", "calls")
 #   else                           any definition, function, type, crate, edit, program or file; CRATE::NAME in that crate
 # Such a word counts for all names that follow it with commas. Of several words in backticks the first is looked up. Outside
-# tables a paragraph is one text. Paths without backticks, and FILE, "WORDS", which stand in that file, are looked up too; in
-# files that follow only=paths nothing else is.
+# tables a paragraph is one text. Paths without backticks, FILE, "WORDS", which stand in that file, and numbers of decisions are
+# looked up too; in files that follow only=paths nothing else is.
 BEGIN {
     # not names of ours: placeholders, variables, words of the languages, of the tools and of the driver
     split("Record.field key=value requires ensures self extern u32 cs memcpy memset rt nm make target/ Fits libntsync.a" \
@@ -74,7 +74,7 @@ function text(s,    n, part, i, before, count, w, last, previous) {
         last = tolower(w[count] == "" ? w[count - 1] : w[count])
         if (before !~ / $/) continue
         previous = w[count - 2]
-        if (last ~ /^edits?$/) { mode = "edit"; where = previous in crate ? previous : "model" }
+        if (last ~ /^edits?$/) { mode = "edit"; where = (previous in crate) ? previous : "model" }
         else if (last ~ /^programs?$/) mode = "program"
         else if (w[count - 1] in crate && !(w[count - 2] ~ /^(crate|crates)$/)) where = w[count - 1]
         else where = place(w[count - 1])
@@ -91,6 +91,12 @@ function paths(s,    n, w, i, p, f, rest) {
         sub(/^[^"]*"/, "", p)
         sub(/"$/, "", p)
         if (f in file && !within(f, p)) missing("\"" p "\" in " f)
+    }
+    rest = s
+    while (match(rest, /DECISIONS\.md, [0-9]+/)) {
+        p = substr(rest, RSTART + 14, RLENGTH - 14)
+        rest = substr(rest, RSTART + RLENGTH)
+        if (!within("docs/DECISIONS.md", " " p ". **") && !within("docs/DECISIONS.md", " **" p ". ")) missing("decision " p)
     }
     n = split(s, w, /[^A-Za-z0-9_.\/-]+/)
     for (i = 1; i <= n; i++) {
