@@ -27,6 +27,7 @@ FILENAME == ARGV[1] {
     }
     there[$1, $2, $3] = 1
     known[$3] = 1
+    if ($1 == "crate") every[$3] = 1
     if ($1 == "crate" && $3 !~ /^(cells|calls)$/) crate[$3] = 1
     if ($1 == "name") { places[$2] = 1; if ($3 ~ /\./) { n = $3; sub(/.*\./, ".", n); known[n] = 1 } }
     next
@@ -74,7 +75,7 @@ function text(s,    n, part, i, before, count, w, last, previous) {
         last = tolower(w[count] == "" ? w[count - 1] : w[count])
         if (before !~ / $/) continue
         previous = w[count - 2]
-        if (last ~ /^edits?$/) { mode = "edit"; where = (previous in crate) ? previous : "model" }
+        if (last ~ /^edits?$/) { mode = "edit"; where = (previous in every) ? previous : "model" }
         else if (last ~ /^programs?$/) mode = "program"
         else if (w[count - 1] in crate && !(w[count - 2] ~ /^(crate|crates)$/)) where = w[count - 1]
         else where = place(w[count - 1])

@@ -1,5 +1,5 @@
--- Two slips of document 01 have no edit of the code that keeps its shape: a walk that is left out for some calls, and objects
--- taken while looking, which the look's shared borrow forbids. So each is a library here, and a history tells it from ours.
+-- Two slips of document 01 as libraries, and a history that tells each from ours. The code has an edit for each too (signals
+-- unlock_wakes_only_at_zero, attempt all_keeps_part): those show that a contract refuses the slip, these that a host would see it.
 use mathlib.Core.Path.{_≡_, ap}
 use mathlib.Core.Bool.{Bool, true, false, cond}
 use mathlib.Core.List.{List, [], _∷_}
