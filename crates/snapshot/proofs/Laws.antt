@@ -16,12 +16,11 @@ use Rattle.cells.specs.Fold.{foldBelow}
 use Rattle.cells.proofs.Fold.{fold-none, fold-more}
 use Rattle.model.specs.Basics.{bit}
 use Rattle.cells.specs.Objects.{Fields, fieldsAt}
-use Rattle.cells.specs.Snapshot.{semaphoreText, mutexText, eventText, fieldsText, objectsTextBelow, objectTotal, waitTotal, listTextBelow, waitLines, waitTextAt, waitsTextFrom, snapshotOf}
+use Rattle.cells.specs.Snapshot.{semaphoreText, mutexText, eventText, fieldsText, objectsTextBelow, objectTotal, waitTotal, listTextBelow, modeTextOf, clockTextOf, waitLines, waitTextAt, waitsTextFrom, snapshotOf}
 use Rattle.cells.specs.Waits.{nextTicket, ticketAt, modeAt, ownerAt, clockAt, timeoutAt, alertAt, listOf, nextWait}
 use Rattle.model.specs.Sizes.{objectPlaces, waitPlaces}
 use Rattle.decimal.specs.Text.{Room, Wrote}
-use Rattle.decimal.proofs.Laws.{then-room, then-wrote}
-use Rattle.snapshot.specs.Texts.{wordText}
+use Rattle.decimal.proofs.Laws.{first-room, then-room, then-wrote}
 
 -- nothing written
 pub wrote-none : (buf : List ℕ) (at : ℕ) → Wrote buf at [] at buf
@@ -53,6 +52,32 @@ module _ (f : ℕ → List ℕ) (buf : List ℕ) (at : ℕ) where
     pub text-end : (n : ℕ) → i ≡ n → Wrote buf at (textBelow f n) pos next
     text-end n e = rw e at w
 
+-- four texts end to end: the room that each call asks for, and what the last one leaves
+module _ (buf : List ℕ) (at : ℕ) (x₀ x₁ x₂ x₃ : List ℕ) (room : Room buf at (x₀ ++ (x₁ ++ (x₂ ++ x₃)))) where
+  pub room-first : Room buf at x₀
+  room-first = first-room buf at x₀ (x₁ ++ (x₂ ++ x₃)) room
+
+  module _ {r₀ : ℕ} {b₀ : List ℕ} (w₀ : Wrote buf at x₀ r₀ b₀) where
+    three-left : Room b₀ r₀ (x₁ ++ (x₂ ++ x₃))
+    three-left = then-room buf at x₀ (x₁ ++ (x₂ ++ x₃)) w₀ room
+
+    pub room-second : Room b₀ r₀ x₁
+    room-second = first-room b₀ r₀ x₁ (x₂ ++ x₃) three-left
+
+    module _ {r₁ : ℕ} {b₁ : List ℕ} (w₁ : Wrote b₀ r₀ x₁ r₁ b₁) where
+      two-left : Room b₁ r₁ (x₂ ++ x₃)
+      two-left = then-room b₀ r₀ x₁ (x₂ ++ x₃) w₁ three-left
+
+      pub room-third : Room b₁ r₁ x₂
+      room-third = first-room b₁ r₁ x₂ x₃ two-left
+
+      module _ {r₂ : ℕ} {b₂ : List ℕ} (w₂ : Wrote b₁ r₁ x₂ r₂ b₂) where
+        pub room-fourth : Room b₂ r₂ x₃
+        room-fourth = then-room b₁ r₁ x₂ x₃ w₂ two-left
+
+        pub wrote-four : {r : ℕ} {end : List ℕ} → Wrote b₂ r₂ x₃ r end → Wrote buf at (x₀ ++ (x₁ ++ (x₂ ++ x₃))) r end
+        wrote-four w₃ = then-wrote buf at x₀ (x₁ ++ (x₂ ++ x₃)) w₀ (then-wrote b₀ r₀ x₁ (x₂ ++ x₃) w₁ (then-wrote b₁ r₁ x₂ x₃ w₂ w₃))
+
 -- an object by its kind
 module _ (h : ℕ) (x : Fields) where
   pub text-semaphore : x .kind ≡ 1 → fieldsText h x ≡ semaphoreText h x
@@ -71,13 +96,24 @@ module _ (h : ℕ) (x : Fields) where
   unfolding fieldsText
   text-empty a b c = rw (ne-eqb (x .kind) 1 a, ne-eqb (x .kind) 2 b, ne-eqb (x .kind) 3 c)
 
--- a word for a cell: 0 or not
-module _ (n : ℕ) (x y : List ℕ) where
-  pub word-zero : n ≡ 0 → wordText n x y ≡ x
-  word-zero e = rw e
+-- a word for a cell, 0 or not: room for the one that is written, and what it leaves
+module _ (n : ℕ) (zero-word other-word : List ℕ) (buf : List ℕ) (at : ℕ) where
+  abbrev word : List ℕ
+  word = cond (eqb n 0) zero-word other-word
 
-  pub word-other : (n ≡ 0 → ⊥) → wordText n x y ≡ y
-  word-other e = rw (ne-eqb n 0 e)
+  module _ (e : n ≡ 0) where
+    pub zero-room : Room buf at word → Room buf at zero-word
+    zero-room h = rw e at h
+
+    pub zero-wrote : {r : ℕ} {end : List ℕ} → Wrote buf at zero-word r end → Wrote buf at word r end
+    zero-wrote w = rw e w
+
+  module _ (e : n ≡ 0 → ⊥) where
+    pub other-room : Room buf at word → Room buf at other-word
+    other-room h = rw (ne-eqb n 0 e) at h
+
+    pub other-wrote : {r : ℕ} {end : List ℕ} → Wrote buf at other-word r end → Wrote buf at word r end
+    other-wrote w = rw (ne-eqb n 0 e) w
 
 -- counting
 bit-low : (b : Bool) → bit b ≤ 1

@@ -1,16 +1,16 @@
 // The snapshot's writer (01: the picture): objects by handle, waits by ticket. Each function asks for room for its text: the
 // public call has tested the buffer, and no snapshot of valid tables is longer (crates/model/proofs/SnapshotLength.antt).
 ghost use mathlib.Core.Path.{_≡_};
+ghost use mathlib.Core.Bool.{cond};
 ghost use Prim.Native.Nat.{_<_, _≤_};
 ghost use lib.ListN.{length};
+ghost use lib.Dec.{eqb};
 ghost use Rattle.model.specs.Sizes.{objectPlaces, waitPlaces};
 ghost use Rattle.model.specs.Layout.{tableLength};
 ghost use Rattle.model.specs.Basics.{bit};
 ghost use Rattle.model.specs.Snapshot.{line};
-ghost use Rattle.cells.specs.Snapshot.{mutexText, fieldsText, objectsTextBelow, objectTotal};
-ghost use Rattle.cells.specs.Snapshot.{waitTotal, listTextBelow, waitLines, waitTextAt, waitsTextFrom, snapshotOf};
+ghost use Rattle.cells.specs.Snapshot.{semaphoreText, mutexText, eventText, fieldsText, objectsTextBelow, objectTotal, waitTotal, modeTextOf, clockTextOf, listTextBelow, waitLines, waitTextAt, waitsTextFrom, snapshotOf};
 ghost use Rattle.decimal.specs.Text.{Room, Wrote};
-ghost use Rattle.snapshot.specs.Texts.{pairText, wordText};
 ghost use Rattle.kinds.specs.Values.{cellsOf};
 use decimal::put_line;
 use decimal::put_text;
@@ -30,24 +30,14 @@ fn one_if(b: bool) -> u64
     0
 }
 
-// A kind that has a count and an attribute: its line, and a key for each of the two.
-fn put_pair(
-    buf: &mut [u8],
-    at: usize,
-    h: u64,
-    o: Object,
-    kind: &[u8],
-    count: &[u8],
-    attribute: &[u8],
-) -> usize
-    requires { ⌜ Room (now buf) at (pairText h (cellsOf o) (now kind) (now count) (now attribute)) ⌝ }
-    ensures { λ r. ⌜ Wrote (now (buf .entry)) at
-        (pairText h (cellsOf o) (now (kind .entry)) (now (count .entry)) (now (attribute .entry))) r (now (buf .exit)) ⌝ }
+fn put_semaphore(buf: &mut [u8], at: usize, h: u64, o: Object) -> usize
+    requires { ⌜ Room (now buf) at (semaphoreText h (cellsOf o)) ⌝ }
+    ensures { λ r. ⌜ Wrote (now (buf .entry)) at (semaphoreText h (cellsOf o)) r (now (buf .exit)) ⌝ }
 {
-    let a = put_line(buf, at, b"handle=", h);
-    let b = put_text(buf, a, kind);
-    let c = put_line(buf, b, count, o.count);
-    put_line(buf, c, attribute, o.attribute)
+    let kind = put_line(buf, at, b"handle=", h);
+    let count = put_text(buf, kind, b"kind=sem\n");
+    let max = put_line(buf, count, b"count=", o.count);
+    put_line(buf, max, b"max=", o.attribute)
 }
 
 fn put_mutex(buf: &mut [u8], at: usize, h: u64, o: Object) -> usize
@@ -61,6 +51,16 @@ fn put_mutex(buf: &mut [u8], at: usize, h: u64, o: Object) -> usize
     put_line(buf, abandoned, b"abandoned=", o.attribute)
 }
 
+fn put_event(buf: &mut [u8], at: usize, h: u64, o: Object) -> usize
+    requires { ⌜ Room (now buf) at (eventText h (cellsOf o)) ⌝ }
+    ensures { λ r. ⌜ Wrote (now (buf .entry)) at (eventText h (cellsOf o)) r (now (buf .exit)) ⌝ }
+{
+    let kind = put_line(buf, at, b"handle=", h);
+    let signaled = put_text(buf, kind, b"kind=event\n");
+    let manual = put_line(buf, signaled, b"signaled=", o.count);
+    put_line(buf, manual, b"manual=", o.attribute)
+}
+
 // An empty place has no text.
 fn put_object(buf: &mut [u8], at: usize, h: u64, o: Object) -> usize
     requires { ⌜ Room (now buf) at (fieldsText h (cellsOf o)) ⌝ }
@@ -68,13 +68,13 @@ fn put_object(buf: &mut [u8], at: usize, h: u64, o: Object) -> usize
 {
     let kind = o.kind;
     if kind == Semaphore::KIND {
-        return put_pair(buf, at, h, o, b"kind=sem\n", b"count=", b"max=");
+        return put_semaphore(buf, at, h, o);
     }
     if kind == Mutex::KIND {
         return put_mutex(buf, at, h, o);
     }
     if kind == Event::KIND {
-        return put_pair(buf, at, h, o, b"kind=event\n", b"signaled=", b"manual=");
+        return put_event(buf, at, h, o);
     }
     at
 }
@@ -125,15 +125,24 @@ fn wait_total(t: &[u64]) -> u64
     total
 }
 
-fn put_word(buf: &mut [u8], at: usize, n: u64, zero: &[u8], other: &[u8]) -> usize
-    requires { ⌜ Room (now buf) at (wordText n (now zero) (now other)) ⌝ }
-    ensures { λ r. ⌜ Wrote (now (buf .entry)) at
-        (wordText n (now (zero .entry)) (now (other .entry))) r (now (buf .exit)) ⌝ }
+fn put_mode(buf: &mut [u8], at: usize, mode: u64) -> usize
+    requires { ⌜ Room (now buf) at (modeTextOf mode) ⌝ }
+    ensures { λ r. ⌜ Wrote (now (buf .entry)) at (modeTextOf mode) r (now (buf .exit)) ⌝ }
 {
-    if n == 0 {
-        return put_text(buf, at, zero);
+    if mode == 0 {
+        return put_text(buf, at, b"mode=any\n");
     }
-    put_text(buf, at, other)
+    put_text(buf, at, b"mode=all\n")
+}
+
+fn put_clock(buf: &mut [u8], at: usize, clock: u64) -> usize
+    requires { ⌜ Room (now buf) at (clockTextOf clock) ⌝ }
+    ensures { λ r. ⌜ Wrote (now (buf .entry)) at (clockTextOf clock) r (now (buf .exit)) ⌝ }
+{
+    if clock == 0 {
+        return put_text(buf, at, b"clock=mono\n");
+    }
+    put_text(buf, at, b"clock=real\n")
 }
 
 fn put_listed(buf: &mut [u8], at: usize, h: u64) -> usize
@@ -173,9 +182,9 @@ fn put_lines(
 {
     let n = list.len() as u64;
     let a = put_line(buf, at, b"wait=", ticket);
-    let b = put_word(buf, a, mode, b"mode=any\n", b"mode=all\n");
+    let b = put_mode(buf, a, mode);
     let c = put_line(buf, b, b"owner=", owner);
-    let d = put_word(buf, c, clock, b"clock=mono\n", b"clock=real\n");
+    let d = put_clock(buf, c, clock);
     let e = put_line(buf, d, b"timeout=", timeout);
     let f = put_line(buf, e, b"alert=", alert);
     let g = put_line(buf, f, b"n=", n);
