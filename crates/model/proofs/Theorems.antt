@@ -46,8 +46,8 @@ pub demand-1 : (t : List ℕ) (c : Call) → ((tableStep t c) .answer ≤ 12)
 demand-1 t c = (tables-low t c, tables-refused t c, tables-ended t c)
 
 -- "Damaged tables, a handle past the end, the wrong kind of object, a wake list too short: each is refused by its
--- stated number": damaged tables with 9, whatever else is wrong; then what is lent and too short with 12; then a handle that
--- names nothing, or an object of another kind than the call is for, with 1.
+-- stated number": damaged tables with 9, whatever else is wrong; then what is lent and too short with 12; then a handle
+-- that names nothing, or an object of another kind than the call is for, with 1.
 pub refused-by-number : (t : List ℕ) (c : Call) → (validTables t ≡ false → (tableStep t c) .answer ≡ 9)
     × (validTables t ≡ true → (LongEnough c → ⊥) → (tableStep t c) .answer ≡ 12)
     × (validTables t ≡ true → LongEnough c → wrongObject (c .operation) ((view t) .objects) ≡ true
@@ -77,8 +77,8 @@ pub demand-3-from : (s : State) → validState s ≡ true → Quiet s → (cs : 
 demand-3-from s v q cs fit = settled-run s cs fit (record { valid = test-valid s v; quiet = q })
 
 -- 1c. Making, on tables of the right length and whatever their cells, gives newly made tables and answer 0; on others
--- it is 9 and nothing altered. A list of calls with makings (`none`) in it is a row of histories, each begun anew ("Making
--- starts a new history").
+-- it is 9 and nothing altered. A list of calls with makings (`none`) in it is a row of histories, each begun anew
+-- ("Making starts a new history").
 pub making : (t : List ℕ)
     → (length t ≡ tableLength → makeTables t ≡ unaltered 0 nothingLent (encode initial))
     × ((length t ≡ tableLength → ⊥) → makeTables t ≡ unaltered 9 nothingLent t)
