@@ -105,7 +105,7 @@
 #if __has_attribute(access)
 #define NTSYNC_ACCESS(mode, pointer, length) __attribute__((access(mode, pointer, length)))
 #endif
-#if __has_attribute(diagnose_if) /* clang, which has no access: lengths that are always refused, and sizeof a wake list */
+#if __has_attribute(diagnose_if) /* clang, which has no access: lengths that are always refused, arrays that are shorter */
 #define NTSYNC_WARN_IF(wrong, text) __attribute__((diagnose_if(wrong, text, "warning")))
 #endif
 #endif
@@ -123,20 +123,27 @@
 #define NTSYNC_WARN_IF(wrong, text)
 #endif
 
-#define NTSYNC_CHECK_CELLS NTSYNC_WARN_IF(cells != NTSYNC_CELLS, "cells must be NTSYNC_CELLS, a number of cells, not of bytes")
+#define NTSYNC_WARN_SHORT(array, cell, length, text) \
+    NTSYNC_WARN_IF(__builtin_object_size(array, 0) / sizeof(cell) < (length), text) /* where the compiler sees the array */
+#define NTSYNC_CHECK_CELLS NTSYNC_WARN_IF(cells != NTSYNC_CELLS, "cells must be NTSYNC_CELLS, a number of cells, not of bytes") \
+    NTSYNC_WARN_SHORT(tables, uint64_t, cells, "the tables have fewer cells")
 #define NTSYNC_CHECK_WAKE \
     NTSYNC_WARN_IF(wake_cells < NTSYNC_WAKE_CELLS || wake_cells == NTSYNC_WAKE_CELLS * sizeof(uint64_t), \
-                   "wake_cells must be a number of cells, not of bytes, NTSYNC_WAKE_CELLS at least")
-#define NTSYNC_CHECK_BYTES NTSYNC_WARN_IF(bytes < NTSYNC_SNAPSHOT_BYTES, "bytes must be NTSYNC_SNAPSHOT_BYTES at least")
+                   "wake_cells must be a number of cells, not of bytes, NTSYNC_WAKE_CELLS at least") \
+    NTSYNC_WARN_SHORT(wake, uint64_t, wake_cells, "the wake list has fewer cells")
+#define NTSYNC_CHECK_LIST NTSYNC_WARN_IF(!list && n != 0, "a null list has no handles") \
+    NTSYNC_WARN_SHORT(list, uint32_t, n, "the list has fewer handles")
+#define NTSYNC_CHECK_BYTES NTSYNC_WARN_IF(bytes < NTSYNC_SNAPSHOT_BYTES, "bytes must be NTSYNC_SNAPSHOT_BYTES at least") \
+    NTSYNC_WARN_SHORT(buffer, uint8_t, bytes, "the buffer has fewer bytes")
 
 /* The tables are arguments 1 and 2 of every call; the wake list, the list of handles or the buffer are 3 and 4. */
 #define NTSYNC_MAKES_TABLES NTSYNC_USE_RESULT NTSYNC_NOT_NULL NTSYNC_ACCESS(write_only, 1, 2) NTSYNC_CHECK_CELLS
 #define NTSYNC_READS_TABLES NTSYNC_USE_RESULT NTSYNC_NOT_NULL NTSYNC_ACCESS(read_only, 1, 2) NTSYNC_CHECK_CELLS
 #define NTSYNC_ALTERS_TABLES NTSYNC_USE_RESULT NTSYNC_NOT_NULL NTSYNC_ACCESS(read_write, 1, 2) NTSYNC_CHECK_CELLS
 #define NTSYNC_WAKES NTSYNC_ALTERS_TABLES NTSYNC_ACCESS(write_only, 3, 4) NTSYNC_CHECK_WAKE
-#define NTSYNC_WAITS NTSYNC_ALTERS_TABLES NTSYNC_ACCESS(read_only, 3, 4)
+#define NTSYNC_WAITS NTSYNC_ALTERS_TABLES NTSYNC_ACCESS(read_only, 3, 4) NTSYNC_CHECK_LIST
 #define NTSYNC_WAITS_LIST NTSYNC_USE_RESULT NTSYNC_NOT_NULL_TABLES NTSYNC_ACCESS(read_write, 1, 2) NTSYNC_CHECK_CELLS \
-    NTSYNC_ACCESS(read_only, 3, 4)
+    NTSYNC_ACCESS(read_only, 3, 4) NTSYNC_CHECK_LIST
 #define NTSYNC_WRITES_BUFFER NTSYNC_READS_TABLES NTSYNC_ACCESS(write_only, 3, 4) NTSYNC_CHECK_BYTES
 
 #ifdef __clang__ /* which else warns about diagnose_if under -Wpedantic, because gcc does not know it */

@@ -5,7 +5,7 @@
 
 #include "ntsync.h"
 
-/* gcc warns about a struct of this type that is filled by position. */
+/* gcc warns about a struct of this type that is filled by position; the first field of ntsync_wait is for the others. */
 #if defined(__has_attribute) && !defined(__cplusplus)
 #if __has_attribute(designated_init)
 #define NTSYNC_BY_NAME __attribute__((designated_init))
@@ -40,6 +40,7 @@ static inline NTSYNC_USE_RESULT int ntsync_version_agrees(void) { return ntsync_
  * times out at once and never hangs. (C++11 has no such initializers: `ntsync_wait w = {};`, then assign the fields.) */
 
 typedef struct NTSYNC_BY_NAME {
+    char by_name_only;    /* never set: it lets no list stand first, so that filling by position does not compile */
     const uint32_t *list; /* handles; may be null if n is 0 */
     size_t n;             /* how many */
     uint32_t owner;       /* who waits, not 0 */

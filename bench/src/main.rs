@@ -1,6 +1,7 @@
 //! Each call of the library beside a plain Rust version of it, on the same tables with the same arguments
 //! (docs/BENCH.md). bench/run runs it twice: `bench count` under callgrind, then `bench report FILE`, with the file
-//! that callgrind wrote. tests/run runs `bench compare`, which measures nothing.
+//! that callgrind wrote. bench/worst does so with `bench count-library` and `bench worst FILE`. tests/run runs
+//! `bench compare`, which measures nothing.
 
 /// The library's functions, as the Rust host declares them.
 #[allow(dead_code)]
@@ -48,23 +49,31 @@ fn plan<'a>(fillings: &'a [Start], scenarios: &'a [Scenario]) -> Vec<Measured<'a
     plan
 }
 
+/// The library's calls alone: enough for the most that one takes.
+fn library_plan<'a>(fillings: &'a [Start], scenarios: &'a [Scenario]) -> Vec<Measured<'a>> {
+    let checks = fillings.iter().map(|start| (&Call::Valid, start));
+    let calls = scenarios.iter().map(|scenario| (&scenario.call, &scenario.start));
+    checks.chain(calls).map(|(call, Start { tables, .. })| Measured { side: &LIBRARY, call, tables }).collect()
+}
+
 fn main() {
     let fillings = scenarios::fillings();
     let scenarios = scenarios::scenarios();
     scenarios.iter().for_each(compare);
-    let plan = plan(&fillings, &scenarios);
     let arguments: Vec<String> = std::env::args().skip(1).collect();
     match arguments.iter().map(String::as_str).collect::<Vec<_>>()[..] {
         ["compare"] => println!("bench: passed, {} scenarios alike on both sides", scenarios.len()),
-        _ if !cfg!(feature = "check") => panic!("without the feature check there is bench compare alone"),
-        ["count"] => measure::count_all(&plan),
+        ["count-library"] => measure::count_all(&library_plan(&fillings, &scenarios)),
+        ["worst", file] => report::print_worst(&library_plan(&fillings, &scenarios), &measure::read_counts(file)),
+        _ if !cfg!(feature = "check") => panic!("the feature check is needed for bench count and bench report"),
+        ["count"] => measure::count_all(&plan(&fillings, &scenarios)),
         ["report", file] => {
             let counts = measure::read_counts(file);
-            assert_eq!(counts.len(), plan.len(), "a count for each call");
+            assert_eq!(counts.len(), plan(&fillings, &scenarios).len(), "a count for each call");
             let (checks, calls) = counts.split_at(3 * fillings.len());
             report::print_checks(&fillings, checks);
             report::print_scenarios(&scenarios, calls);
         }
-        _ => panic!("bench compare, bench count, or bench report FILE"),
+        _ => panic!("bench compare, count, count-library, report FILE, or worst FILE"),
     }
 }

@@ -1,6 +1,6 @@
 //! The figures as tables in Markdown, for docs/BENCH-ALL.md.
 
-use crate::measure::{fastest, Count};
+use crate::measure::{fastest, Count, Measured};
 use crate::scenarios::{Scenario, Start};
 use crate::sides::Call;
 
@@ -43,6 +43,18 @@ fn print_head(titles: &str) {
 fn compared(counts: [Option<u64>; 2]) -> [String; 3] {
     let [Some(library), Some(plain)] = counts else { return ["", "", ""].map(String::from) };
     [grouped(library), grouped(plain), ratio(library as f64, plain as f64)]
+}
+
+/// The most instructions of a check, of a call but the snapshot, and of a snapshot: three lines of a name and a number.
+pub fn print_worst(calls: &[Measured], counts: &[Count]) {
+    assert_eq!(counts.len(), calls.len(), "a count for each call");
+    let most = |figures: &mut dyn Iterator<Item = u64>| figures.max().expect("a count");
+    let whole = |snapshots: bool| {
+        let wanted = calls.iter().zip(counts).filter(|(m, _)| matches!(m.call, Call::Snapshot) == snapshots);
+        most(&mut wanted.map(|(_, count)| count.whole))
+    };
+    println!("check {}", most(&mut counts.iter().filter_map(|count| count.check)));
+    println!("call {}\nsnapshot {}", whole(false), whole(true));
 }
 
 /// Each filling's counts are: reading all cells, the library's check, the plain check.

@@ -1,6 +1,6 @@
 # From hosts/abi/interface.txt: a C program in which each line misuses one call in one way: its result dropped, one of its
 # pointers null, one of its lengths too long for the array. The line's end says by which warning gcc must report it, and
-# clang, "-" where clang can't see it.
+# clang.
 BEGIN {
     RS = ";"
     value["tables"] = "t"; value["cells"] = "NTSYNC_CELLS"; value["wake"] = "w"; value["wake_cells"] = "NTSYNC_WAKE_CELLS"
@@ -38,8 +38,7 @@ function kept(other, as, gcc, clang) {
     for (i = 1; i <= count; i++)
         if (index(parameters[i], "*") > 0) {
             kept(i, "NULL", "nonnull", "nonnull")
-            kept(i + 1, long[names[i + 1]], constant[i] ? "stringop-overread" : "stringop-overflow",
-                 names[i + 1] ~ /cells/ ? "user-defined-warnings" : "-")
+            kept(i + 1, long[names[i + 1]], constant[i] ? "stringop-overread" : "stringop-overflow", "user-defined-warnings")
         }
 }
 

@@ -34,11 +34,11 @@
 #define PROGRAM return ntsync_init(h->tables, sizeof h->tables);
 #elif CASE == 11 /* bytes in place of the wake list's cells */
 #define PROGRAM return ntsync_set(TABLES, h->wake, sizeof h->wake, handle).woken;
-#elif CASE == 12 /* a buffer that is shorter than it is said to be; gcc alone knows its size */
+#elif CASE == 12 /* a buffer that is shorter than it is said to be */
 #define PROGRAM return ntsync_snapshot(TABLES, buffer + 1, sizeof buffer).length;
-#elif CASE == 13 /* bytes in place of the list's handles; gcc alone */
+#elif CASE == 13 /* bytes in place of the list's handles */
 #define PROGRAM return ntsync_wait_any(TABLES, list, sizeof list, 6, 0, NTSYNC_MONOTONIC, 0, now + 5, now).answer;
-#elif CASE == 14 /* a wait by position, where deadline and present time can be exchanged; gcc alone */
+#elif CASE == 14 /* a wait by position, where deadline and present time can be exchanged */
 #define PROGRAM                                                      \
     ntsync_wait w = {list, 1, 6, 0, NTSYNC_MONOTONIC, now, now + 5}; \
     return ntsync_wait_for_any(TABLES, &w).answer;
@@ -53,7 +53,7 @@
 #elif CASE == 17 /* the same, and all by position */
 #define PROGRAM \
     return ntsync_wait_all_list(h->tables, sizeof h->tables, list, 1, 6, 0, NTSYNC_MONOTONIC, 0, now + 5, now).answer;
-#elif CASE == 18 /* a null list that is said to have a handle; gcc alone */
+#elif CASE == 18 /* a null list that is said to have a handle */
 #define PROGRAM return ntsync_wait_any_list(TABLES, NULL, 1, 6, 0, NTSYNC_MONOTONIC, 0, now + 5, now).answer;
 #endif
 

@@ -16,6 +16,7 @@ pub mod Digits
 pub mod SnapshotLength
 pub mod Answers
 pub mod Reports
+pub mod Places
 pub mod Tables
 pub mod DamageExamples
 pub mod Theorems

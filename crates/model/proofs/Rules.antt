@@ -3,7 +3,7 @@ use mathlib.Core.Path.{_≡_, refl, sym, _∙_}
 use mathlib.Core.Bool.{Bool, true, false, not, _&&_, _||_, cond}
 use mathlib.Core.List.{List, [], _∷_}
 use mathlib.Core.Option.{none, some}
-use Prim.Native.Nat.{ℕ, suc, pred, _+_, _<_}
+use Prim.Native.Nat.{ℕ, zero, suc, pred, _+_, _<_}
 use native.Mathlib.Omega.{arith}
 use lib.ListN.{getD}
 use lib.Dec.{eqb, ltb, leb, eqb·suc-zero}
@@ -137,14 +137,26 @@ new-valid aSemaphore c m lx ly e = pass _ (le-leb c m (ltb-false m c e), (lt-ltb
 new-valid aMutex o c lx ly e = pass _ (lt-ltb o word32 lx, (lt-ltb c word32 ly, (not-false _ e, (refl, tt))))
 new-valid anEvent v m lx ly e = refl
 
--- the lowest empty place is empty, also where there is none
+-- the lowest empty place is empty, also where there is none, and those below it are occupied
+unoccupied : (x : Object) → occupied x ≡ false → x ≡ empty
+unoccupied empty n = refl
+unoccupied (semaphore c m) n = clash refl n
+unoccupied (mutex o c a) n = clash refl n
+unoccupied (event v m) n = clash refl n
+
+below-one : (x : Object) (os : List Object) (i : ℕ) → occupied x ≡ true → ((j : ℕ) → j < i → occupied (getD os j empty) ≡ true)
+    → (j : ℕ) → j < suc i → occupied (getD (x ∷ os) j empty) ≡ true
+below-one x os i y f zero l = y
+below-one x os i y f (suc j) l = f j (omega arith)
+
 pub lowest-empty : (h : ℕ) (os : List Object) → (i : ℕ) × (lowestEmpty h os ≡ h + i) × (getD os i empty ≡ empty)
+    × ((j : ℕ) → j < i → occupied (getD os j empty) ≡ true)
 unfolding lowestEmpty
-lowest-empty h [] = (0, omega arith, refl)
-lowest-empty h (empty ∷ os) = (0, omega arith, refl)
-lowest-empty h (semaphore c m ∷ os) = let r = lowest-empty (suc h) os in let q : lowestEmpty (suc h) os ≡ suc h + r .0 = r .1 in (suc (r .0), omega arith, r .2)
-lowest-empty h (mutex o c a ∷ os) = let r = lowest-empty (suc h) os in let q : lowestEmpty (suc h) os ≡ suc h + r .0 = r .1 in (suc (r .0), omega arith, r .2)
-lowest-empty h (event v m ∷ os) = let r = lowest-empty (suc h) os in let q : lowestEmpty (suc h) os ≡ suc h + r .0 = r .1 in (suc (r .0), omega arith, r .2)
+lowest-empty h [] = (0, omega arith, refl, λ j l. absurd (let z : ⊥ = omega arith in z))
+lowest-empty h (x ∷ os) = byBool (occupied x)
+    (λ y. let r = lowest-empty (suc h) os in let q : lowestEmpty (suc h) os ≡ suc h + r .0 = r .1 in
+    rw y (suc (r .0), omega arith, r .2, below-one x os (r .0) y (r .3)))
+    (λ n. rw n (0, omega arith, unoccupied x n, λ j l. absurd (let z : ⊥ = omega arith in z)))
 
 pub new-place : (s : State) → (objectAt (s .objects) (newHandle s) ≡ empty) × (eqb (newHandle s) 0 ≡ false)
 new-place s = let r = lowest-empty 1 (s .objects) in let i : newHandle s ≡ suc (r .0) = (let z : lowestEmpty 1 (s .objects) ≡ 1 + r .0 = r .1 in omega arith) in

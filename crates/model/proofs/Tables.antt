@@ -10,6 +10,7 @@ use lib.ListN.{length, getD, replicate}
 use lib.Dec.{eqb, ltb}
 use borrow.Author.Tests.{eqb-false, le-ltb, eq-eqb, ne-eqb}
 use Rattle.model.specs.Basics.{corrupt, maybe, anyOf, member, tabulate, joined, All, overwrite}
+use Rattle.model.specs.Calls.{Kind, create, newObject}
 use Rattle.model.specs.Calls.{signal, pulseEvent, wait, cancel, Lent, nothingLent, Call, asks, least, refusal}
 use Rattle.model.specs.Calls.{waitFaults, timeUp}
 use Rattle.model.specs.Calls.{newWait, mustQueue, waitsFull, refusals, admits, change, WithinWidths}
@@ -20,7 +21,7 @@ use Rattle.model.specs.Objects.{Object, empty, signaled}
 use Rattle.model.specs.Steps.{Outcome, unaltered, conditions, firstRefusal, records, libraryStep, referenceStep}
 use Rattle.model.specs.Steps.{onTables, asRead, tableStep, run, makeTables}
 use Rattle.model.specs.Notions.{refusalNumbers, FirstIs, Quiet, touched, Rising, AllOrNone, LongEnough}
-use Rattle.model.specs.Notions.{wrongObject}
+use Rattle.model.specs.Notions.{wrongObject, _isIn_}
 use Rattle.model.specs.Waits.{Mode, all, Wait, free, waiting, State, initial, objectAt, Grant, attempt, servable}
 use Rattle.model.specs.Waits.{anyAbandoned, servedAnswer, wakeByWalk, wakeBySearch}
 use Rattle.model.proofs.History.{Settled, step-same, step-settled, initial-settled}
@@ -31,6 +32,7 @@ use Rattle.model.proofs.Frame.{Untaken, Unreported, step-objects, UsedP
 use Rattle.model.proofs.Validity.{tables-valid, encoded-valid}
 use Rattle.model.proofs.Reports.{step-pulse, Left, Told, ByReports, step-room, step-left, step-rises, step-told}
 use Rattle.model.proofs.Reports.{step-all-queued, unserved-all, not-served, step-all-now}
+use Rattle.model.proofs.Places.{LowestFilled, step-creates, step-cancels}
 use Rattle.model.proofs.Rules.{perform-case}
 use Rattle.model.proofs.Answers.{step-short, step-wrong, among, refused-numbered, step-low, step-refused}
 use Rattle.model.proofs.Answers.{step-ended, step-spends}
@@ -210,6 +212,18 @@ pub tables-pulse : (t : List ℕ) (h : ℕ) (l : Lent) → WithinWidths (asks (s
     r .answer ≡ 0 → (o : ℕ) → signaled o (objectAt ((view (r .held)) .objects) h) ≡ false
 tables-pulse t h l fit = left-tables t (asks (signal pulseEvent h) l) fit (λ s r. r .answer ≡ 0 → (o : ℕ) → signaled o (objectAt (s .objects) h) ≡ false)
     (λ z. absurd (let y : ⊥ = omega arith in y)) (λ g. step-pulse (view t) h l)
+
+-- creating and cancelling
+pub tables-creates : (t : List ℕ) (k : Kind) (x y : ℕ) (l : Lent) → WithinWidths (asks (create k x y) l) → let r = tableStep t (asks (create k x y) l) in
+    r .answer ≡ 0 → LowestFilled (r .first) (newObject k x y) ((view t) .objects) ((view (r .held)) .objects)
+tables-creates t k x y l fit = left-tables t (asks (create k x y) l) fit
+    (λ s r. r .answer ≡ 0 → LowestFilled (r .first) (newObject k x y) ((view t) .objects) (s .objects))
+    (λ z. absurd (let y : ⊥ = omega arith in y)) (λ g. step-creates k x y l (view t))
+
+pub tables-cancels : (t : List ℕ) (k : ℕ) (l : Lent) → WithinWidths (asks (cancel k) l) → let r = tableStep t (asks (cancel k) l) in
+    r .answer ≡ 6 → (v : Wait) → v isIn (view (r .held)) .waits → v .ticket ≡ k → ⊥
+tables-cancels t k l fit = left-tables t (asks (cancel k) l) fit (λ s r. r .answer ≡ 6 → (v : Wait) → v isIn s .waits → v .ticket ≡ k → ⊥)
+    (λ z. absurd (let y : ⊥ = omega arith in y)) (λ g. step-cancels k l (view t))
 
 pub search-ends : (s : State) → Valid s → Quiet ((wakeBySearch [] s) .state)
 search-ends s g = search-quiet (length (s .waits)) s (valid-consistent s g) (count-length each (s .waits))

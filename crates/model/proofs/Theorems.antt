@@ -10,12 +10,12 @@ use lib.ListN.{length, getD}
 use lib.Dec.{eqb}
 use Rattle.model.specs.Sizes.{objectPlaces, ticketsEnd, snapshotBuffer, longestSnapshot}
 use Rattle.model.specs.Basics.{corrupt, maybe, anyOf, member, hasRepeat, All, overwrite}
-use Rattle.model.specs.Objects.{Object, empty, signaled, cleared}
+use Rattle.model.specs.Objects.{Object, empty, occupied, signaled, cleared}
 use Rattle.model.specs.Waits.{Mode, all, Wait, free, waiting, State, initial, objectAt, putAt, servable}
 use Rattle.model.specs.Waits.{wakeBySearch}
 use Rattle.model.specs.Snapshot.{snapshotText}
 use Rattle.model.specs.Calls.{wait, cancel, Lent, nothingLent, Call, asks, refusal, waitFaults, timeUp, newWait}
-use Rattle.model.specs.Calls.{pulseEvent, signal, waitsFull, change, WithinWidths}
+use Rattle.model.specs.Calls.{Kind, create, newObject, pulseEvent, signal, waitsFull, change, WithinWidths}
 use Rattle.model.specs.Layout.{tableLength, encode, view, validState, validTables}
 use Rattle.model.specs.ValidCells.{ValidCells}
 use Rattle.model.specs.Steps.{Outcome, unaltered, conditions, firstRefusal, records, referenceStep, onTables}
@@ -30,7 +30,7 @@ use Rattle.model.proofs.Tables.{tables-refuse, tables-unknown, search-e
 use Rattle.model.proofs.Tables.{tables-ended, tables-exactly, wait-queued}
 use Rattle.model.proofs.Tables.{tables-objects, tables-stays, tables-free, tables-room, tables-wake, tables-left}
 use Rattle.model.proofs.Tables.{tables-pulse, tables-rise, tables-spend, tables-told, tables-all-now}
-use Rattle.model.proofs.Tables.{settled-run}
+use Rattle.model.proofs.Tables.{tables-creates, tables-cancels, settled-run}
 use Rattle.model.proofs.Tables.{settled-read, run-quiet}
 use Rattle.model.proofs.Tables.{reference-uncorrupted, run-uncorrupted, make-either, settled-rows}
 use Rattle.model.proofs.Validity.{test-valid, valid-test}
@@ -163,6 +163,20 @@ pub only-queuing-spends : (t : List ℕ) (c : Call) → WithinWidths c
     → (view ((tableStep t c) .held)) .next
     ≡ cond (eqb ((tableStep t c) .answer) 11) (suc ((view t) .next)) ((view t) .next)
 only-queuing-spends t c fit = tables-spend t c fit
+
+-- "Creating takes the lowest empty object place": a create answered 0 hands back the handle of a place that was empty
+-- and below which none was, and that place has the new object now.
+pub creates-lowest : (t : List ℕ) (k : Kind) (x y : ℕ) (l : Lent) → let c = asks (create k x y) l in WithinWidths c
+    → (tableStep t c) .answer ≡ 0 → let h = (tableStep t c) .first in
+    (objectAt ((view t) .objects) h ≡ empty)
+    × ((j : ℕ) → 0 < j → j < h → occupied (objectAt ((view t) .objects) j) ≡ true)
+    × (objectAt ((view ((tableStep t c) .held)) .objects) h ≡ newObject k x y)
+creates-lowest t k x y l fit = tables-creates t k x y l fit
+
+-- "6 .. the wait is gone": after a cancel answered 6 no queued wait has that ticket.
+pub cancelled-gone : (t : List ℕ) (k : ℕ) (l : Lent) → let c = asks (cancel k) l in WithinWidths c
+    → (tableStep t c) .answer ≡ 6 → (v : Wait) → v isIn (view ((tableStep t c) .held)) .waits → v .ticket ≡ k → ⊥
+cancelled-gone t k l fit = tables-cancels t k l fit
 
 -- 6. THE RECORDS ARE THE SERVED OR ENDED WAITS, for any cells. Each report's ticket is that of a wait queued before the
 -- call, and of no wait queued after it.
