@@ -4,13 +4,13 @@ use mathlib.Core.Path.{_≡_, refl}
 use mathlib.Core.List.{List, [], _∷_, _++_, map}
 use Prim.Native.Nat.{ℕ, suc, _-_}
 use lib.ListN.{replicate}
-use Rattle.model.specs.Basics.{anyOf, member, hasRepeat, joined}
+use Rattle.model.specs.Basics.{anyOf, member, hasRepeat, tabulate, joined}
 use Rattle.model.specs.Calls.{aSemaphore, aMutex, anEvent, post, unlock, kill, setEvent, pulseEvent, Operation}
 use Rattle.model.specs.Calls.{create, close, read, signal, wait, expire, cancel, wakeLent, Call, least}
 use Rattle.model.specs.Calls.{lowestEmpty, allOccupied, waitsFull, enqueue, refusals, admits, endEach, change}
 use Rattle.model.specs.Snapshot.{ascii, digitsUpTo, line, objectText, objectsText, objectCount, waitText}
 use Rattle.model.specs.Snapshot.{queueFrom, snapshotText}
-use Rattle.model.specs.Sizes.{objectPlaces, mutexCeiling, never, wakeLength}
+use Rattle.model.specs.Sizes.{objectPlaces, waitPlaces, mutexCeiling, never, wakeLength}
 use Rattle.model.specs.Steps.{Outcome, firstRefusal, records, libraryStep, referenceStep, run}
 use Rattle.model.specs.Waits.{Mode, any, all, State, initial, lowestSignaled, allSignaled, look, attempt}
 use Rattle.model.specs.Waits.{acquireEach, anyAbandoned, dequeue, oldest, concernedBy, serve, tryToServe}
@@ -103,6 +103,9 @@ furtherExamples =
     ∷ (create aSemaphore 2 1 ∷ create aMutex 0 1 ∷ create aMutex 1 0 ∷ create aMutex 5 2 ∷ signal (unlock 0) 1 ∷ signal (unlock 6) 1 ∷ signal (kill 6) 1 ∷ signal setEvent 1 ∷ signal (post 0) 1
     ∷ waits any (1 ∷ []) 6 ∷ close 1 ∷ cancel 2 ∷ cancel 0 ∷ wait any [] 6 0 0 0 never 0 ∷ wait any (1 ∷ []) 0 0 0 0 never 0 ∷ wait any (1 ∷ []) 6 2 0 0 never 0 ∷ wait any (1 ∷ []) 6 0 1 0 never 0
     ∷ wait any (1 ∷ []) 6 0 0 1 never 0 ∷ waits all (1 ∷ 1 ∷ []) 6 ∷ cancel 1 ∷ close 1 ∷ read aMutex 1 ∷ [])
+    -- adding 0 is allowed; a full queue refuses a wait that must queue, and none that can be served at once
+    ∷ (create aSemaphore 1 3 ∷ signal (post 0) 1 ∷ read aSemaphore 1 ∷ create anEvent 0 0
+    ∷ (replicate waitPlaces (waits any (2 ∷ []) 7) ++ (waits any (2 ∷ []) 7 ∷ waits any (2 ∷ 1 ∷ []) 7 ∷ [])))
     ∷ []
 
 abbrev pub furtherExpected : List (List Heard)
@@ -118,14 +121,16 @@ furtherExpected =
     ∷ (says 1 0 0 ∷ says 1 0 0 ∷ says 1 0 0 ∷ says 0 1 0 ∷ says 1 0 0 ∷ says 2 0 0 ∷ says 2 0 0 ∷ says 1 0 0 ∷ says 1 0 0
     ∷ says 11 0 1 ∷ says 10 0 0 ∷ says 1 0 0 ∷ says 1 0 0 ∷ says 1 0 0 ∷ says 1 0 0 ∷ says 1 0 0 ∷ says 1 0 0
     ∷ says 1 0 0 ∷ says 1 0 0 ∷ says 6 0 0 ∷ says 0 0 0 ∷ says 1 0 0 ∷ [])
+    ∷ (says 0 1 0 ∷ says 0 1 0 ∷ says 0 1 3 ∷ says 0 2 0
+    ∷ (tabulate waitPlaces (λ i. says 11 0 (suc i)) ++ (says 7 0 0 ∷ says 0 1 0 ∷ [])))
     ∷ []
 
 pub further-library : map (λ ops. map heard (run libraryStep initial (map calling ops))) furtherExamples ≡ furtherExpected
-unfolding lowestSignaled allSignaled look attempt acquireEach anyAbandoned dequeue oldest serve tryToServe member concernedBy walkQueue libraryStep firstRefusal records run refusals change least lowestEmpty waitsFull enqueue allOccupied hasRepeat anyOf admits endEach
+unfolding lowestSignaled allSignaled look attempt acquireEach anyAbandoned dequeue oldest serve tryToServe member concernedBy walkQueue libraryStep firstRefusal records run refusals change least lowestEmpty waitsFull enqueue allOccupied hasRepeat anyOf admits endEach tabulate
 further-library = refl
 
 pub further-reference : map (λ ops. map heard (run referenceStep initial (map calling ops))) furtherExamples ≡ furtherExpected
-unfolding lowestSignaled allSignaled look attempt acquireEach anyAbandoned dequeue oldest serve tryToServe member concernedBy searchQueue referenceStep firstRefusal records run refusals change least lowestEmpty waitsFull enqueue allOccupied hasRepeat anyOf admits endEach
+unfolding lowestSignaled allSignaled look attempt acquireEach anyAbandoned dequeue oldest serve tryToServe member concernedBy searchQueue referenceStep firstRefusal records run refusals change least lowestEmpty waitsFull enqueue allOccupied hasRepeat anyOf admits endEach tabulate
 further-reference = refl
 
 -- P1's whole text
