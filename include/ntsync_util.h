@@ -40,7 +40,7 @@ static inline NTSYNC_USE_RESULT int ntsync_version_agrees(void) { return ntsync_
  * times out at once and never hangs. (C++11 has no such initializers: `ntsync_wait w = {};`, then assign the fields.) */
 
 typedef struct NTSYNC_BY_NAME {
-    char by_name_only;    /* never set: it lets no list stand first, so that filling by position does not compile */
+    char by_name_only;    /* never set: a list that stands first by position is warned about in C, an error in C++ */
     const uint32_t *list; /* handles; may be null if n is 0 */
     size_t n;             /* how many */
     uint32_t owner;       /* who waits, not 0 */
