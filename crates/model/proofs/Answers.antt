@@ -200,6 +200,9 @@ step-ended s c = perform-case wakeByWalk s c (λ o. member (o .answer) (5 ∷ 6 
 pub refused-not : (n : ℕ) (k : ℕ) → member k refusalNumbers ≡ false → member n refusalNumbers ≡ true → eqb n k ≡ false
 refused-not n k other e = byBool (eqb n k) (λ y. clash (let q : n ≡ k = eqb-true n k y in rw q at e) other) (λ f. f)
 
+pub refusal-never : (c : Call) (s : State) (n k : ℕ) → member k refusalNumbers ≡ false → firstRefusal (conditions c s) ≡ some n → n ≡ k → ⊥
+refusal-never c s n k other e q = clash (rw q at (refused-numbered c s n e)) other
+
 pub step-spends : (s : State) (c : Call) → (libraryStep s c) .held .next ≡ cond (eqb ((libraryStep s c) .answer) 11) (suc (s .next)) (s .next)
 unfolding libraryStep member
 step-spends s c = perform-case wakeByWalk s c (λ o. o .held .next ≡ cond (eqb (o .answer) 11) (suc (s .next)) (s .next))

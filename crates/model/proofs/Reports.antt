@@ -32,7 +32,7 @@ use Rattle.model.proofs.Rules.{Accepted, due, perform-case}
 use Rattle.model.proofs.Acquiring.{at-put-other, acquireAt, acquireEach-occupied, attempt-signaled}
 use Rattle.model.proofs.History.{endEach-objects}
 use Rattle.model.proofs.Frame.{all-map, clears-none, admits-quietly, change-queue}
-use Rattle.model.proofs.Answers.{refused-numbered, refused-not}
+use Rattle.model.proofs.Answers.{refused-numbered, refused-not, refusal-never}
 use Rattle.model.proofs.Valid.{Valid, in-places, still-acquireEach, event-occupied}
 
 -- THE WAKE LIST HAS ROOM: each visit reports one wait at most
@@ -415,7 +415,7 @@ pulses-event (event v m) a = (refl, refl)
 pub step-pulse : (s : State) (h : ℕ) (l : Lent) → let r = libraryStep s (asks (signal pulseEvent h) l) in r .answer ≡ 0 → (o : ℕ) → signaled o (objectAt (r .held .objects) h) ≡ false
 unfolding libraryStep change refusals member
 step-pulse s h l = let c : Call = asks (signal pulseEvent h) l in perform-case wakeByWalk s c (λ r. r .answer ≡ 0 → (o : ℕ) → signaled o (objectAt (r .held .objects) h) ≡ false)
-    (λ n e z o. absurd (eqb-false n 0 (refused-not n 0 refl (refused-numbered c s n e)) z))
+    (λ n e z o. absurd (refusal-never c s n 0 refl e z))
     (λ a z o. let x : Object = objectAt (s .objects) h in let p = pulses-event x (a .1) in let d : Change = change (signal pulseEvent h) s in
     let put : isEvent (objectAt (d .state .objects) h) ≡ true = rw (at-put-same (s .objects) h ((signalRule pulseEvent x) .next) (event-occupied x (p .0))) (p .1) in
     let v : State = (wakeByWalk (d .changed) (d .state)) .state in

@@ -149,7 +149,7 @@ below-one : (x : Object) (os : List Object) (i : ℕ) → occupied x ≡ true �
 below-one x os i y f zero l = y
 below-one x os i y f (suc j) l = f j (omega arith)
 
-pub lowest-empty : (h : ℕ) (os : List Object) → (i : ℕ) × (lowestEmpty h os ≡ h + i) × (getD os i empty ≡ empty)
+lowest-empty : (h : ℕ) (os : List Object) → (i : ℕ) × (lowestEmpty h os ≡ h + i) × (getD os i empty ≡ empty)
     × ((j : ℕ) → j < i → occupied (getD os j empty) ≡ true)
 unfolding lowestEmpty
 lowest-empty h [] = (0, omega arith, refl, λ j l. absurd (let z : ⊥ = omega arith in z))
@@ -158,6 +158,9 @@ lowest-empty h (x ∷ os) = byBool (occupied x)
     rw y (suc (r .0), omega arith, r .2, below-one x os (r .0) y (r .3)))
     (λ n. rw n (0, omega arith, unoccupied x n, λ j l. absurd (let z : ⊥ = omega arith in z)))
 
+-- its handle is one more than its place
+pub lowest-place : (os : List Object) → (i : ℕ) × (lowestEmpty 1 os ≡ suc i) × (getD os i empty ≡ empty) × ((j : ℕ) → j < i → occupied (getD os j empty) ≡ true)
+lowest-place os = let r = lowest-empty 1 os in let z : lowestEmpty 1 os ≡ 1 + r .0 = r .1 in (r .0, omega arith, r .2, r .3)
+
 pub new-place : (s : State) → (objectAt (s .objects) (newHandle s) ≡ empty) × (eqb (newHandle s) 0 ≡ false)
-new-place s = let r = lowest-empty 1 (s .objects) in let i : newHandle s ≡ suc (r .0) = (let z : lowestEmpty 1 (s .objects) ≡ 1 + r .0 = r .1 in omega arith) in
-    (rw i (r .2), rw i (eqb·suc-zero (r .0)))
+new-place s = let r = lowest-place (s .objects) in let i : newHandle s ≡ suc (r .0) = r .1 in (rw i (r .2), rw i (eqb·suc-zero (r .0)))

@@ -34,7 +34,7 @@ use Rattle.model.proofs.Reports.{step-pulse, Left, Told, ByReports, ste
 use Rattle.model.proofs.Reports.{step-all-queued, unserved-all, not-served, step-all-now}
 use Rattle.model.proofs.Places.{LowestFilled, step-creates, step-cancels}
 use Rattle.model.proofs.Rules.{perform-case}
-use Rattle.model.proofs.Answers.{step-short, step-wrong, among, refused-numbered, step-low, step-refused}
+use Rattle.model.proofs.Answers.{step-short, step-wrong, refusal-never, step-low, step-refused}
 use Rattle.model.proofs.Answers.{step-ended, step-spends}
 use Rattle.model.proofs.Answers.{never-corrupt, step-exactly}
 use Rattle.model.proofs.Valid.{Valid, step-valid, valid-consistent}
@@ -135,17 +135,14 @@ module _ (mode : Mode) (hs : List ℕ) (o f p a t now : ℕ) where
 
   pub wait-queued : (l : Lent) (s : State) → anyOf (waitFaults mode hs o f p a (s .objects)) ≡ false
       → ((libraryStep s (record { operation = wait mode hs o f p a t now; lent = l })) .answer ≡ 11) ↔ Queues s
-  unfolding libraryStep refusals change
+  unfolding libraryStep refusals change member
   wait-queued l s ok = (
     (let c : Call = record { operation = wait mode hs o f p a t now; lent = l } in
         perform-case wakeByWalk s c (λ o. o .answer ≡ 11 → Queues s)
-        (λ n e q. absurd (eqb-false n 11 (not-eleven n (refused-numbered c s n e)) q))
+        (λ n e q. absurd (refusal-never c s n 11 refl e q))
         (λ x q. admits-queues s (flip (mustQueue (waiter s) now s) (waitsFull (s .waits)) (x .1 .1 .0)) (flip (mustQueue (waiter s) now s) (eqb (s .next) ticketsEnd) (x .1 .1 .1 .0)) q)),
     λ q. rw (no-refusal l s ok q) (queues-admits s q),
   )
-    where
-      not-eleven : (n : ℕ) → member n refusalNumbers ≡ true → eqb n 11 ≡ false
-      not-eleven n e = among (λ n. eqb n 11 ≡ false) refusalNumbers (refl, (refl, (refl, (refl, (refl, (refl, (refl, (refl, tt)))))))) n e
 
 -- THE FRAME
 pub tables-objects : (t : List ℕ) (c : Call) → WithinWidths c → (h : ℕ) → member h (touched (c .operation) ((tableStep t c) .answer) ((tableStep t c) .first)) ≡ false

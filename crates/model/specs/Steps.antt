@@ -86,7 +86,6 @@ abbrev pub asRead : Outcome (List ℕ) → Outcome State
 asRead o = holding view o
 
 -- THE LIBRARY ON TABLES. "9 damaged tables: nothing altered", first in the order
-
 unfoldable pub tableStep : List ℕ → Call → Outcome (List ℕ)
 tableStep t c = cond (validTables t) (onTables (libraryStep (view t) c)) (unaltered (number corrupt) (c .lent) t)
 
