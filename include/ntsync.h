@@ -32,7 +32,7 @@
  *     ntsync_close 416, ntsync_read_sem 416, ntsync_read_mutex 416, ntsync_read_event 416, ntsync_post 808,
  *     ntsync_unlock 808, ntsync_kill_owner 808, ntsync_set 792, ntsync_reset 416, ntsync_pulse 808, ntsync_wait_any 1,616,
  *     ntsync_wait_all 1,616, ntsync_expire 448, ntsync_cancel 432, ntsync_snapshot 544.
- *   Time, in instructions at worst of the scenarios of docs/BENCH.md: the check of all cells 35,015; a call with its check
+ *   Time, in instructions at worst of the scenarios of docs/BENCH.md: the check of all cells 35,045; a call with its check
  *   160,802 (a post that wakes 32 waits for all of 64 objects), the snapshot of full tables 200,587.
  *
  * Saving. A host may write the cells to a file, or keep them in memory that outlives it, and bring them back. It must store

@@ -1,4 +1,4 @@
-//! The figures as tables in Markdown, for docs/BENCH-ALL.md.
+//! The figures as tables in Markdown, for docs/BENCH-ALL.md; and the most that a call takes.
 
 use crate::measure::{fastest, Count, Measured};
 use crate::scenarios::{Scenario, Start};
