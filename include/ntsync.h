@@ -57,14 +57,14 @@
 
 /* Rises with every change of a signature, an argument's meaning, a size, an answer or the layout of the tables. A host
  * compares it with ntsync_version() at its start, and with the version that it stored with saved tables. */
-#define NTSYNC_VERSION 1
+#define NTSYNC_VERSION 2
 
 /* ---- sizes */
 
 #define NTSYNC_CELLS 2785           /* cells of the tables: 22,280 bytes */
 #define NTSYNC_OBJECT_PLACES 128    /* objects at most; handles are 1 to 128 */
 #define NTSYNC_WAIT_PLACES 32       /* queued waits at most */
-#define NTSYNC_MAX_LISTED 64        /* handles in a wait's list at most; 1 at least */
+#define NTSYNC_MAX_LISTED 64        /* handles in a wait's list at most; for any 0 at least, for all 1 */
 #define NTSYNC_RECORD_CELLS 3       /* cells of a wake record: ticket, answer, index */
 #define NTSYNC_WAKE_CELLS 96        /* cells of a wake list at least: a record for every wait place */
 #define NTSYNC_SNAPSHOT_BYTES 32768 /* bytes of a snapshot's buffer at least */
@@ -243,10 +243,11 @@ ntsync_changed ntsync_pulse(uint64_t *tables, size_t cells, uint64_t *wake, size
 
 /* ---- waiting
  *
- * list has 1 to NTSYNC_MAX_LISTED handles; owner is who waits, not 0; alert is 0 or the handle of an event that ends the wait
- * where the list can't (NT's alerts); flags is the wait's clock, NTSYNC_MONOTONIC or NTSYNC_REALTIME; pad is 0; timeout is a
- * time of that clock (not a span) or NTSYNC_NEVER, and time its present time, in whatever unit the host uses: times are only
- * compared. A timeout that is not later than time, NTSYNC_NEVER excepted, makes a poll, which never queues. In this order:
+ * list has n handles, 0 to NTSYNC_MAX_LISTED for any, 1 to NTSYNC_MAX_LISTED for all; owner is who waits, not 0; alert is 0
+ * or the handle of an event that ends the wait where the list can't (NT's alerts); flags is the wait's clock,
+ * NTSYNC_MONOTONIC or NTSYNC_REALTIME; pad is 0; timeout is a time of that clock (not a span) or NTSYNC_NEVER, and time its
+ * present time, in whatever unit the host uses: times are only compared. A timeout that is not later than time, NTSYNC_NEVER
+ * excepted, makes a poll, which never queues. In this order:
  *   NTSYNC_EINVAL         an argument is none of these, or a listed handle is no object;
  *   NTSYNC_DONE           served, the objects are acquired; index: see each call. If the list could not serve but the alert
  *                         is signaled, the alert is acquired and index is n;
@@ -263,7 +264,8 @@ ntsync_changed ntsync_pulse(uint64_t *tables, size_t cells, uint64_t *wake, size
  * below 2^32-1; an event when it is signaled. */
 
 /* Acquires the first listed object that can be; index is its place in the list, from 0. A handle may stand there twice, and
- * be the alert too. */
+ * be the alert too. With n 0 it is a sleep: it ends by its alert, with NTSYNC_DONE and index 0 (which is n), by time, or by
+ * ntsync_cancel. Without alert and with NTSYNC_NEVER, nothing but ntsync_cancel ends it. */
 ntsync_waited ntsync_wait_any(uint64_t *tables, size_t cells, const uint32_t *list, size_t n, uint32_t owner,
                               uint32_t alert, uint32_t flags, uint32_t pad, uint64_t timeout, uint64_t time) NTSYNC_WAITS;
 
@@ -289,7 +291,8 @@ uint32_t ntsync_cancel(uint64_t *tables, size_t cells, uint64_t ticket) NTSYNC_A
  * NTSYNC_SNAPSHOT_BYTES. */
 ntsync_written ntsync_snapshot(const uint64_t *tables, size_t cells, uint8_t *buffer, size_t bytes) NTSYNC_WRITES_BUFFER;
 
-/* ---- the waits for hosts whose empty list is a null pointer: with n 0 the list is never passed on */
+/* ---- the waits for hosts whose empty list is a null pointer: with n 0 the list is never passed on. A wait for all with n 0
+ * is refused here too. */
 
 static inline ntsync_waited
 ntsync_wait_any_list(uint64_t *tables, size_t cells, const uint32_t *list, size_t n, uint32_t owner, uint32_t alert,

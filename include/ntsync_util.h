@@ -37,7 +37,8 @@ static inline NTSYNC_USE_RESULT int ntsync_version_agrees(void) { return ntsync_
  *     ntsync_waited r = ntsync_wait_for_any(tables, NTSYNC_CELLS, &w);
  *
  * A field that is left out is 0: no alert, the monotonic clock. A deadline left out is 0 too, which makes a poll: the wait
- * times out at once and never hangs. (C++11 has no such initializers: `ntsync_wait w = {};`, then assign the fields.) */
+ * times out at once and never hangs. A list left out is empty: for any a sleep, which its alert, its deadline or
+ * ntsync_cancel ends; for all refused. (C++11 has no such initializers: `ntsync_wait w = {};`, then assign the fields.) */
 
 typedef struct NTSYNC_BY_NAME {
     char by_name_only;    /* never set: a list that stands first by position is warned about in C, an error in C++ */
@@ -163,8 +164,11 @@ static inline NTSYNC_USE_RESULT uint32_t ntsync_create_status(uint32_t answer)
 /* The status of a wait for n handles that is over, by its own answer or its record's:
  *   DONE           WAIT_0 + index, or USER_APC if index is n: the alert ended it
  *   EOWNERDEAD     ABANDONED_WAIT_0 + index
- *   EINVAL         INVALID_PARAMETER if n is 0 or over NTSYNC_MAX_LISTED, else INVALID_HANDLE. For a handle twice in a wait
- *                  for all NT has INVALID_PARAMETER_MIX, which the library does not tell apart
+ *   EINVAL         INVALID_PARAMETER if n is over NTSYNC_MAX_LISTED, or 0, where no listed handle is at fault; else
+ *                  INVALID_HANDLE. For a handle twice in a wait for all NT has INVALID_PARAMETER_MIX, which the library does
+ *                  not tell apart
+ *   ETIMEDOUT      TIMEOUT. NT has no wait for no objects, but a delay, and that returns SUCCESS when its time is up: a layer
+ *                  that makes its delays of empty lists hands on SUCCESS
  *   others         as ntsync_handle_status. A mutex at its highest count queues the wait; NT has MUTANT_LIMIT_EXCEEDED. */
 static inline NTSYNC_USE_RESULT uint32_t ntsync_wait_status(uint32_t answer, uint32_t index, size_t n)
 {

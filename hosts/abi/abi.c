@@ -107,8 +107,8 @@ static void waits(void)
     waited("wait_all", ntsync_wait_all(tables, NTSYNC_CELLS, list, 2, 8, 0, 0, 0, 3000, 2900));
     waited("wait_all", ntsync_wait_all(tables, NTSYNC_CELLS, list, 1, 9, 3, 1, 0, 4000, 4000));
     waited("wait_any", ntsync_wait_any(tables, NTSYNC_CELLS, list, 1, 7, 0, 0, 9, 2000, 1900));
-    waited("empty list", ntsync_wait_any_list(tables, NTSYNC_CELLS, NULL, 0, 7, 0, 0, 0, 2000, 1900));
-    waited("empty list", ntsync_wait_all_list(tables, NTSYNC_CELLS, NULL, 0, 7, 0, 0, 0, 2000, 1900));
+    waited("empty list", ntsync_wait_any_list(tables, NTSYNC_CELLS, NULL, 0, 7, 3, 0, 0, 2000, 1900));
+    waited("empty list", ntsync_wait_all_list(tables, NTSYNC_CELLS, NULL, 0, 7, 3, 0, 0, 2000, 1900));
     waited("list", ntsync_wait_any_list(tables, NTSYNC_CELLS, twice, 2, 6, 0, 1, 0, 900, 900));
     waited("list", ntsync_wait_all_list(tables, NTSYNC_CELLS, twice, 2, 6, 0, 1, 0, 900, 900));
     waited("list", ntsync_wait_all_list(tables, NTSYNC_CELLS, twice, 1, 6, 0, 1, 0, 901, 900));

@@ -101,8 +101,8 @@ fn waits(tables: &mut [u64]) {
         waited("wait_all", ntsync_wait_all(t, n, l, 2, 8, 0, 0, 0, 3000, 2900));
         waited("wait_all", ntsync_wait_all(t, n, l, 1, 9, 3, 1, 0, 4000, 4000));
         waited("wait_any", ntsync_wait_any(t, n, l, 1, 7, 0, 0, 9, 2000, 1900));
-        waited("empty list", ntsync_wait_any(t, n, e, 0, 7, 0, 0, 0, 2000, 1900));
-        waited("empty list", ntsync_wait_all(t, n, e, 0, 7, 0, 0, 0, 2000, 1900));
+        waited("empty list", ntsync_wait_any(t, n, e, 0, 7, 3, 0, 0, 2000, 1900));
+        waited("empty list", ntsync_wait_all(t, n, e, 0, 7, 3, 0, 0, 2000, 1900));
         waited("list", ntsync_wait_any(t, n, d, 2, 6, 0, 1, 0, 900, 900));
         waited("list", ntsync_wait_all(t, n, d, 2, 6, 0, 1, 0, 900, 900));
         waited("list", ntsync_wait_all(t, n, d, 1, 6, 0, 1, 0, 901, 900));

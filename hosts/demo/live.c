@@ -9,7 +9,7 @@ static const uint64_t TICK = 20000000, PATIENCE = 50000000; /* nanoseconds */
 
 typedef struct {
     host host;
-    uint32_t timer, done; /* events */
+    uint32_t done; /* an event */
     int failures;
 } live;
 
@@ -21,10 +21,10 @@ static void must(live *l, const char *what, int holds)
     printf("FAILED: %s\n", what);
 }
 
-/* A queued wait until a span from now by that clock; the task keeps the deadline. */
+/* A queued wait until a span from now by that clock, without an event a sleep; the task keeps the deadline. */
 static void wait_for(live *l, task *self, const uint32_t *event, uint32_t clock, uint64_t span)
 {
-    ntsync_wait w = {.list = event, .n = 1, .clock = clock, .deadline = NTSYNC_NEVER};
+    ntsync_wait w = {.list = event, .n = event != NULL, .clock = clock, .deadline = NTSYNC_NEVER};
     if (span != NTSYNC_NEVER)
         w.deadline = system_now(NULL, clock) + span;
     must(l, "the wait is queued", host_wait_any(&l->host, self, w).answer == NTSYNC_QUEUED);
@@ -43,7 +43,7 @@ static void ticker_step(void *world, task *self, outcome heard)
     if (state > 0)
         timed_out(l, self, heard, NTSYNC_MONOTONIC);
     if (state < TICKS) {
-        wait_for(l, self, &l->timer, NTSYNC_MONOTONIC, TICK);
+        wait_for(l, self, NULL, NTSYNC_MONOTONIC, TICK);
     } else {
         ntsync_changed r = ntsync_set(l->host.tables, NTSYNC_CELLS, l->host.wake, NTSYNC_WAKE_CELLS, l->done);
         must(l, "the watcher is woken", r.woken == 1);
@@ -69,7 +69,6 @@ int run_live(void)
     static live l;
     if (!host_start(&l.host, system_now, &l))
         return 1;
-    l.timer = ntsync_create_event(l.host.tables, NTSYNC_CELLS, 0, 0).handle;
     l.done = ntsync_create_event(l.host.tables, NTSYNC_CELLS, 0, 1).handle;
     const task *ticker = host_add(&l.host, "ticker", ticker_step), *watcher = host_add(&l.host, "watcher", watcher_step);
     unsigned slept = host_run_by_system_clocks(&l.host);

@@ -51,9 +51,14 @@ static void cancel_recorder(plant *p)
     expect(p, "ready tasks", p->host.ready_count, 1);
 }
 
-static void close_timer(plant *p)
+/* The alert of the standby valve's sleep ends it; then nothing names the event, and it can be closed. */
+static void stop_standby(plant *p)
 {
-    answered(p, "operator", "closes the timer", ntsync_close(p->host.tables, NTSYNC_CELLS, p->timer), NTSYNC_DONE);
+    uint64_t *t = p->host.tables;
+    answered(p, "operator", "tries to close stop", ntsync_close(t, NTSYNC_CELLS, p->stop), NTSYNC_BUSY);
+    changed(p, "operator", "sets stop", ntsync_set(t, NTSYNC_CELLS, p->host.wake, NTSYNC_WAKE_CELLS, p->stop),
+            result(NTSYNC_DONE, 0, 1));
+    answered(p, "operator", "closes stop", ntsync_close(t, NTSYNC_CELLS, p->stop), NTSYNC_DONE);
 }
 
 static void operate(plant *p)
@@ -64,7 +69,7 @@ static void operate(plant *p)
     case 35: find_valve_dead(p); break;
     case 45: pulse_flush(p); break;
     case 55: cancel_recorder(p); break;
-    case END: close_timer(p); break;
+    case END: stop_standby(p); break;
     default: break;
     }
 }

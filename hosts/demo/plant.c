@@ -17,7 +17,6 @@ static void create_objects(plant *p)
     p->pressure = created(p, "manual event", "pressure", ntsync_create_event(t, NTSYNC_CELLS, 0, 1));
     p->flush = created(p, "manual event", "flush", ntsync_create_event(t, NTSYNC_CELLS, 0, 1));
     p->stop = created(p, "auto event", "stop", ntsync_create_event(t, NTSYNC_CELLS, 0, 0));
-    p->timer = created(p, "auto event", "timer", ntsync_create_event(t, NTSYNC_CELLS, 0, 0));
     answered(p, "plant", "tries a semaphore 5 of 4", ntsync_create_sem(t, NTSYNC_CELLS, 5, 4).answer, NTSYNC_EINVAL);
 }
 

@@ -11,8 +11,8 @@ enum { SENSOR, PUMP, VALVE, STANDBY, RECORDER, TASKS };
 typedef struct {
     host host;
     uint64_t clocks[2]; /* simulated, by the number of the clock */
-    uint32_t batches, manifold, pressure, flush, stop, timer; /* handles */
-    const char *object_names[NTSYNC_OBJECT_PLACES + 1];       /* by handle */
+    uint32_t batches, manifold, pressure, flush, stop;  /* handles */
+    const char *object_names[NTSYNC_OBJECT_PLACES + 1]; /* by handle */
     task *tasks[TASKS];
     int failures;
 } plant;
@@ -22,7 +22,7 @@ void say(const plant *p, const char *who, const char *format, ...);
 void expect(plant *p, const char *what, uint64_t got, uint64_t wanted);
 void wait_any(plant *p, task *t, ntsync_wait w, uint32_t wanted);
 void wait_all(plant *p, task *t, ntsync_wait w, uint32_t wanted);
-void sleep_until(plant *p, task *t, uint32_t clock, uint64_t time);
+void sleep_until(plant *p, task *t, uint32_t clock, uint64_t time, uint32_t alert);
 void changed(plant *p, const char *who, const char *call, ntsync_changed r, ntsync_changed wanted);
 void answered(plant *p, const char *who, const char *call, uint32_t answer, uint32_t wanted);
 void heard_as(plant *p, const task *t, outcome heard, uint32_t answer, uint32_t index);

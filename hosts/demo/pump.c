@@ -17,7 +17,7 @@ static void pump_until(plant *p, task *self, outcome heard, uint64_t time)
     ntsync_mutex_state m = ntsync_read_mutex(p->host.tables, NTSYNC_CELLS, p->manifold);
     expect(p, "owner of the manifold", m.owner, self->owner);
     expect(p, "count of the manifold", m.count, 1);
-    sleep_until(p, self, NTSYNC_MONOTONIC, time);
+    sleep_until(p, self, NTSYNC_MONOTONIC, time, 0);
 }
 
 /* The valve and the recorder wait for the pressure, and a manual event serves both. */
@@ -25,7 +25,7 @@ static void report_pressure(plant *p, task *self)
 {
     changed(p, self->name, "sets pressure",
             ntsync_set(p->host.tables, NTSYNC_CELLS, p->host.wake, NTSYNC_WAKE_CELLS, p->pressure), result(NTSYNC_DONE, 0, 2));
-    sleep_until(p, self, NTSYNC_MONOTONIC, 30);
+    sleep_until(p, self, NTSYNC_MONOTONIC, 30, 0);
 }
 
 static void release_manifold(plant *p, task *self, uint32_t woken)

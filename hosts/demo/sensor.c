@@ -15,7 +15,7 @@ static void report_batches(plant *p, task *self)
     post(p, self, "posts 2 batches", 2, result(NTSYNC_DONE, 0, 1));
     ntsync_sem_state s = ntsync_read_sem(p->host.tables, NTSYNC_CELLS, p->batches);
     expect(p, "batches left", s.count, 1);
-    sleep_until(p, self, NTSYNC_MONOTONIC, 30);
+    sleep_until(p, self, NTSYNC_MONOTONIC, 30, 0);
 }
 
 /* A wait whose deadline is now is a poll: it never queues. */
@@ -45,10 +45,10 @@ void sensor_step(void *world, task *self, outcome heard)
     if (state != START)
         heard_as(p, self, heard, NTSYNC_ETIMEDOUT, 0);
     switch (state) {
-    case START: sleep_until(p, self, NTSYNC_MONOTONIC, 10); break;
+    case START: sleep_until(p, self, NTSYNC_MONOTONIC, 10, 0); break;
     case BATCHES: report_batches(p, self); break;
     case LOW: lose_pressure(p, self); break;
-    case POLLED: sleep_until(p, self, NTSYNC_MONOTONIC, 50); break;
+    case POLLED: sleep_until(p, self, NTSYNC_MONOTONIC, 50, 0); break;
     case HOT: overheat(p, self); break;
     default: expect(p, "steps of the sensor", (uint64_t)self->state, HOT);
     }

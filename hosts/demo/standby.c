@@ -1,4 +1,5 @@
-/* The standby valve takes over an abandoned manifold: it hears EOWNERDEAD, owns it all the same, and inspects the pipe. */
+/* The standby valve takes over an abandoned manifold: it hears EOWNERDEAD, owns it all the same, and inspects the pipe. At
+ * last it sleeps until it is told to stop. */
 #include "plant.h"
 
 enum { START, NO_FLUSH, ABANDONED, INSPECTING, INSPECTED, FLUSHED, FINISH };
@@ -33,7 +34,7 @@ static void take_again(plant *p, task *self)
 static void inspect(plant *p, task *self)
 {
     unlock(p, self, "unlocks the manifold once", result(NTSYNC_DONE, 2, 0));
-    sleep_until(p, self, NTSYNC_REALTIME, 1000035);
+    sleep_until(p, self, NTSYNC_REALTIME, 1000035, 0);
 }
 
 static void hand_back(plant *p, task *self)
@@ -42,11 +43,18 @@ static void hand_back(plant *p, task *self)
     wait_any(p, self, (ntsync_wait){.list = &p->flush, .n = 1, .deadline = NTSYNC_NEVER}, NTSYNC_QUEUED);
 }
 
+/* Index 0 is the length of the empty list, so the alert; NT tells it so. */
+static void finish(plant *p, const task *self, outcome heard)
+{
+    expect(p, "status of the sleep", ntsync_wait_status(heard.answer, heard.index, 0), NTSYNC_STATUS_USER_APC);
+    say(p, self->name, "finishes");
+}
+
 void standby_step(void *world, task *self, outcome heard)
 {
     plant *p = world;
     static const uint32_t wanted[] = {NTSYNC_DONE, NTSYNC_ETIMEDOUT, NTSYNC_EOWNERDEAD, NTSYNC_DONE,
-                                      NTSYNC_ETIMEDOUT, NTSYNC_DONE, NTSYNC_ETIMEDOUT};
+                                      NTSYNC_ETIMEDOUT, NTSYNC_DONE, NTSYNC_DONE};
     int state = self->state++;
     if (state > START && state <= FINISH)
         heard_as(p, self, heard, wanted[state], 0);
@@ -56,8 +64,8 @@ void standby_step(void *world, task *self, outcome heard)
     case ABANDONED: take_again(p, self); break;
     case INSPECTING: inspect(p, self); break;
     case INSPECTED: hand_back(p, self); break;
-    case FLUSHED: sleep_until(p, self, NTSYNC_MONOTONIC, 60); break;
-    case FINISH: say(p, self->name, "finishes"); break;
+    case FLUSHED: sleep_until(p, self, NTSYNC_MONOTONIC, 100, p->stop); break;
+    case FINISH: finish(p, self, heard); break;
     default: expect(p, "steps of the standby valve", (uint64_t)self->state, FINISH);
     }
 }

@@ -63,9 +63,9 @@ static void say_wait(const plant *p, const task *t, const char *verb, const ntsy
     printf("%s", verb);
     for (size_t i = 0; i < w->n; i++)
         printf(" %s", p->object_names[w->list[i]]);
+    say_deadline(w);
     if (w->alert != 0)
         printf(", alert %s", p->object_names[w->alert]);
-    say_deadline(w);
     say_waited(r);
 }
 
@@ -83,15 +83,12 @@ void wait_all(plant *p, task *t, ntsync_wait w, uint32_t wanted)
     expect(p, "answer of the call", r.answer, wanted);
 }
 
-/* A wait for the timer event, which nobody sets, ends by its deadline. */
-void sleep_until(plant *p, task *t, uint32_t clock, uint64_t time)
+/* A wait for any of no objects: only its deadline, its alert or a cancel ends it. */
+void sleep_until(plant *p, task *t, uint32_t clock, uint64_t time, uint32_t alert)
 {
-    ntsync_wait w = {.list = &p->timer, .n = 1, .clock = clock, .deadline = time};
+    ntsync_wait w = {.alert = alert, .clock = clock, .deadline = time};
     ntsync_waited r = host_wait_any(&p->host, t, w);
-    begin_line(p, t->name);
-    printf("sleeps");
-    say_deadline(&w);
-    say_waited(r);
+    say_wait(p, t, "sleeps", &w, r);
     expect(p, "answer of the call", r.answer, NTSYNC_QUEUED);
 }
 

@@ -12,7 +12,7 @@ void valve_step(void *world, task *self, outcome heard)
     switch (state) {
     case START: wait_any(p, self, (ntsync_wait){.list = &p->pressure, .n = 1, .deadline = 100}, NTSYNC_QUEUED); break;
     case PRESSURE: wait_any(p, self, (ntsync_wait){.list = &p->manifold, .n = 1, .deadline = 100}, NTSYNC_QUEUED); break;
-    case GOT_MANIFOLD: sleep_until(p, self, NTSYNC_MONOTONIC, 50); break;
+    case GOT_MANIFOLD: sleep_until(p, self, NTSYNC_MONOTONIC, 50, 0); break;
     default: expect(p, "steps of the valve", (uint64_t)self->state, NEVER_REACHED);
     }
 }

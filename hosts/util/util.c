@@ -57,6 +57,8 @@ static void statuses(void)
     same("last of 64", ntsync_wait_status(NTSYNC_DONE, 63, 64), 0x3F);
     same("alert of 64", ntsync_wait_status(NTSYNC_DONE, 64, 64), 0xC0);
     same("alert of 1", ntsync_wait_status(NTSYNC_DONE, 1, 1), 0xC0);
+    same("alert of none", ntsync_wait_status(NTSYNC_DONE, 0, 0), 0xC0);
+    same("time of none", ntsync_wait_status(NTSYNC_ETIMEDOUT, 0, 0), 0x102);
     same("first abandoned", ntsync_wait_status(NTSYNC_EOWNERDEAD, 0, 1), 0x80);
     same("last abandoned", ntsync_wait_status(NTSYNC_EOWNERDEAD, 63, 64), 0xBF);
     same("no list", ntsync_wait_status(NTSYNC_EINVAL, 0, 0), 0xC000000D);
@@ -119,8 +121,10 @@ static void waits(void)
     compare("any, time up", ntsync_wait_for_any(tables, NTSYNC_CELLS, &w),
             ntsync_wait_any(other, NTSYNC_CELLS, twice, 2, 6, 3, 1, 0, 1000, 1000), NTSYNC_ETIMEDOUT);
     w = named(NULL, 0);
-    same("any of none", ntsync_wait_for_any(tables, NTSYNC_CELLS, &w).answer, NTSYNC_EINVAL);
-    same("all of none", ntsync_wait_for_all(tables, NTSYNC_CELLS, &w).answer, NTSYNC_EINVAL);
+    compare("any of none", ntsync_wait_for_any(tables, NTSYNC_CELLS, &w),
+            ntsync_wait_any(other, NTSYNC_CELLS, list, 0, 6, 3, 1, 0, 1000, 900), NTSYNC_QUEUED);
+    compare("all of none", ntsync_wait_for_all(tables, NTSYNC_CELLS, &w),
+            ntsync_wait_all(other, NTSYNC_CELLS, list, 0, 6, 3, 1, 0, 1000, 900), NTSYNC_EINVAL);
 }
 
 /* After waits(): tickets 1 and 3 are waits for any that name the event, in this order. */

@@ -44,7 +44,7 @@ fn valid_header(cells: &[u64]) -> bool {
     cells[MODE] <= ALL
         && (1..=MAX_32).contains(&cells[OWNER])
         && cells[CLOCK] <= u64::from(REALTIME)
-        && (1..=MAX_LISTED as u64).contains(&cells[COUNT])
+        && (u64::from(cells[MODE] == ALL)..=MAX_LISTED as u64).contains(&cells[COUNT])
 }
 
 fn valid_names(objects: &[u64], cells: &[u64]) -> bool {

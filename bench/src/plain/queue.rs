@@ -67,7 +67,7 @@ fn time_up(timeout: u64, time: u64) -> bool {
 
 fn bad(objects: &[u64], asked: &Asked) -> bool {
     let list = asked.list;
-    !(1..=MAX_LISTED).contains(&list.len())
+    !(usize::from(asked.all)..=MAX_LISTED).contains(&list.len())
         || asked.owner == 0
         || asked.flags > REALTIME
         || asked.pad != 0

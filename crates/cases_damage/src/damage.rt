@@ -209,13 +209,14 @@ fn tickets() {
     one_cell(b"wait ticket 0", ANY, TICKET, 0);
 }
 
-// With a list of zeros only the count itself is wrong.
-fn empty_list() {
+// With a list of zeros only the count itself can be wrong, and for any it is not.
+fn empty_list(mode: u64, label: &[u8]) {
     let mut t = [0u64; TABLE_LENGTH];
     put_sound(&mut t);
+    put_cell(&mut t, SINGLE, MODE, mode);
     put_cell(&mut t, SINGLE, LISTED, 0);
     put_cell(&mut t, SINGLE, LIST, 0);
-    ask_tables(&mut t, b"wait count 0, list of zeros");
+    ask_tables(&mut t, label);
 }
 
 fn headers() {
@@ -272,7 +273,8 @@ pub fn cases() {
     next_ticket();
     tickets();
     headers();
-    empty_list();
+    empty_list(1, b"wait for all, count 0, list of zeros");
+    empty_list(0, b"no damage: wait for any, count 0, list of zeros");
     lists();
     free_places();
     names();

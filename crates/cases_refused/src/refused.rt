@@ -25,7 +25,6 @@ fn both_of(t: Tables, list: &[u32]) -> Tables {
 }
 
 fn lengths(t: Tables) -> Tables {
-    let t = both_of(t, &[0u32; 0]);
     let t = both_of(t, &[3u32; 65]);
     both_of(t, &[3u32; 3000])
 }

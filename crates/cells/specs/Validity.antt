@@ -25,9 +25,9 @@ occupiedAt t h = ltb 0 (named t h .kind)
 unfoldable pub eventAt : List ℕ → ℕ → Bool
 eventAt t h = eqb (named t h .kind) 3
 
--- refusing an empty list is house, in both modes
+-- for all an empty list is refused (house), for any it is not (1/13)
 unfoldable pub tooFew : ℕ → ℕ → Bool
-tooFew mode n = eqb n 0
+tooFew mode n = eqb mode 1 && eqb n 0
 
 -- a list's handles are all occupied; some number stands in it twice
 unfoldable pub occupiedList : List ℕ → List ℕ → Bool

@@ -40,6 +40,10 @@ calling op = record { operation = op; lent = wakeLent (replicate wakeLength 0) }
 abbrev waits : Mode → List ℕ → ℕ → Operation
 waits m hs o = wait m hs o 0 0 0 never 0
 
+-- owner 7 waits for no objects, with this alert until this time, at this time
+abbrev forNone : Mode → ℕ → ℕ → ℕ → Operation
+forNone m alert timeout time = wait m [] 7 0 0 alert timeout time
+
 abbrev setUp : List Operation
 setUp = create aSemaphore 1 2 ∷ create anEvent 0 1 ∷ waits all (1 ∷ 2 ∷ []) 7 ∷ []
 
@@ -101,11 +105,17 @@ furtherExamples =
     ∷ (create anEvent 0 0 ∷ wait any (1 ∷ []) 7 0 0 0 50 0 ∷ wait any (1 ∷ []) 7 1 0 0 50 0 ∷ wait any (1 ∷ []) 7 0 0 0 51 0 ∷ waits any (1 ∷ []) 7 ∷ expire 0 50 ∷ expire 1 never ∷ expire 2 0 ∷ expire 0 never ∷ cancel 4 ∷ [])
     -- refusals of create, post, unlock, kill, close, cancel and the waits
     ∷ (create aSemaphore 2 1 ∷ create aMutex 0 1 ∷ create aMutex 1 0 ∷ create aMutex 5 2 ∷ signal (unlock 0) 1 ∷ signal (unlock 6) 1 ∷ signal (kill 6) 1 ∷ signal setEvent 1 ∷ signal (post 0) 1
-    ∷ waits any (1 ∷ []) 6 ∷ close 1 ∷ cancel 2 ∷ cancel 0 ∷ wait any [] 6 0 0 0 never 0 ∷ wait any (1 ∷ []) 0 0 0 0 never 0 ∷ wait any (1 ∷ []) 6 2 0 0 never 0 ∷ wait any (1 ∷ []) 6 0 1 0 never 0
+    ∷ waits any (1 ∷ []) 6 ∷ close 1 ∷ cancel 2 ∷ cancel 0 ∷ waits all [] 6 ∷ wait any (1 ∷ []) 0 0 0 0 never 0 ∷ wait any (1 ∷ []) 6 2 0 0 never 0 ∷ wait any (1 ∷ []) 6 0 1 0 never 0
     ∷ wait any (1 ∷ []) 6 0 0 1 never 0 ∷ waits all (1 ∷ 1 ∷ []) 6 ∷ cancel 1 ∷ close 1 ∷ read aMutex 1 ∷ [])
     -- adding 0 is allowed; a full queue refuses a wait that must queue, and none that can be served at once
     ∷ (create aSemaphore 1 3 ∷ signal (post 0) 1 ∷ read aSemaphore 1 ∷ create anEvent 0 0
     ∷ (replicate waitPlaces (waits any (2 ∷ []) 7) ++ (waits any (2 ∷ []) 7 ∷ waits any (2 ∷ 1 ∷ []) 7 ∷ [])))
+    -- 1/13, no objects: woken by the alert with index 0, which names it (an auto event is cleared), and a manual one, also at
+    -- once; ended by time, also at once; cancelled; for all refused
+    ∷ (create anEvent 0 0 ∷ create anEvent 0 1 ∷ forNone any 1 never 0 ∷ close 1 ∷ signal setEvent 1 ∷ read anEvent 1
+    ∷ forNone any 2 never 0 ∷ signal setEvent 2 ∷ forNone any 2 never 0 ∷ read anEvent 2
+    ∷ forNone any 0 50 0 ∷ expire 0 49 ∷ expire 0 50 ∷ forNone any 0 50 50 ∷ forNone any 0 never 0 ∷ expire 0 never ∷ cancel 4
+    ∷ forNone all 0 never 0 ∷ forNone all 2 never 0 ∷ [])
     ∷ []
 
 abbrev pub furtherExpected : List (List Heard)
@@ -123,6 +133,10 @@ furtherExpected =
     ∷ says 1 0 0 ∷ says 1 0 0 ∷ says 6 0 0 ∷ says 0 0 0 ∷ says 1 0 0 ∷ [])
     ∷ (says 0 1 0 ∷ says 0 1 0 ∷ says 0 1 3 ∷ says 0 2 0
     ∷ (tabulate waitPlaces (λ i. says 11 0 (suc i)) ++ (says 7 0 0 ∷ says 0 1 0 ∷ [])))
+    ∷ (says 0 1 0 ∷ says 0 2 0 ∷ says 11 0 1 ∷ says 10 0 0 ∷ reports 0 ((1 ∷ 0 ∷ 0 ∷ []) ∷ []) ∷ says 0 0 0
+    ∷ says 11 0 2 ∷ reports 0 ((2 ∷ 0 ∷ 0 ∷ []) ∷ []) ∷ says 0 0 0 ∷ says 0 1 1
+    ∷ says 11 0 3 ∷ says 0 0 0 ∷ reports 0 ((3 ∷ 5 ∷ 0 ∷ []) ∷ []) ∷ says 5 0 0 ∷ says 11 0 4 ∷ says 0 0 0 ∷ says 6 0 0
+    ∷ says 1 0 0 ∷ says 1 0 0 ∷ [])
     ∷ []
 
 pub further-library : map (λ ops. map heard (run libraryStep initial (map calling ops))) furtherExamples ≡ furtherExpected

@@ -6,9 +6,9 @@ use Prim.Native.Nat.{ℕ, _+_, _-_, _*_}
 use lib.ListN.{length, replicate}
 use Rattle.model.specs.Sizes.{objectPlaces, waitPlaces, never, ticketsEnd, wakeLength}
 use Rattle.model.specs.Basics.{anyOf, allOf, member, hasRepeat, tabulate, joined}
-use Rattle.model.specs.Waits.{any, lowestSignaled, allSignaled, look, attempt, acquireEach, anyAbandoned, dequeue}
+use Rattle.model.specs.Waits.{any, all, lowestSignaled, allSignaled, look, attempt, acquireEach, anyAbandoned, dequeue}
 use Rattle.model.specs.Waits.{oldest, concernedBy, serve, tryToServe, walkQueue}
-use Rattle.model.specs.Calls.{aSemaphore, anEvent, setEvent, unlock, create, resetEvent, signal, wait, expire}
+use Rattle.model.specs.Calls.{aSemaphore, anEvent, setEvent, unlock, create, resetEvent, signal, wait, expire, cancel}
 use Rattle.model.specs.Calls.{nothingLent, wakeLent, asks, least, lowestEmpty, allOccupied, waitsFull, enqueue}
 use Rattle.model.specs.Calls.{refusals, admits, endEach, change}
 use Rattle.model.specs.Snapshot.{ascii, digitsUpTo, line, objectText, objectsText, objectCount, waitText}
@@ -49,6 +49,16 @@ held = heldBy5 3
 abbrev heldText : List ℕ
 heldText = ascii "next=4\nobjects=2\nhandle=1\nkind=mutex\nowner=5\ncount=3\nabandoned=0\nhandle=2\nkind=event\nsignaled=0\nmanual=0\nwaits=1\nwait=3\nmode=any\nowner=6\nclock=real\ntimeout=90\nalert=2\nn=1\nobj=1\n"
 
+-- an unset auto event; ticket 1 waits for no objects until 50, for any (0) or for all (1), owner 7, the event its alert
+abbrev oneEvent : ℕ → List (List ℕ) → List ℕ
+oneEvent next waits = tables next ((3 ∷ []) ∷ []) waits
+
+abbrev ofNone : ℕ → List ℕ
+ofNone mode = oneEvent 2 ((1 ∷ mode ∷ 7 ∷ 0 ∷ 50 ∷ 0 ∷ 1 ∷ []) ∷ [])
+
+abbrev ofNoneText : List ℕ
+ofNoneText = ascii "next=2\nobjects=1\nhandle=1\nkind=event\nsignaled=0\nmanual=0\nwaits=1\nwait=1\nmode=any\nowner=7\nclock=mono\ntimeout=50\nalert=1\nn=0\n"
+
 -- every object place an event; tickets spent; a semaphore of 2 of 1
 abbrev full : List ℕ
 full = tables 1 (tabulate objectPlaces (λ p. 3 ∷ [])) []
@@ -88,10 +98,21 @@ pub table-readings :
     × (seen (tableStep p2 (asks (create anEvent 2 5) nothingLent))
     ≡ sees (0 ∷ 3 ∷ 0 ∷ 0 ∷ []) nothingLent
     (tables 2 ((1 ∷ 0 ∷ 0 ∷ 2 ∷ []) ∷ (3 ∷ 1 ∷ 0 ∷ 1 ∷ []) ∷ (3 ∷ 1 ∷ 0 ∷ 1 ∷ []) ∷ []) []))
+    -- 1/13, no objects: queued; woken by the alert, which is cleared; due; cancelled; for all refused, and damage in tables
+    × (seen (tableStep (oneEvent 1 []) (asks (wait any [] 7 0 0 1 50 0) nothingLent))
+    ≡ sees (11 ∷ 0 ∷ 1 ∷ 0 ∷ []) nothingLent (ofNone 0))
+    × (seen (tableStep (ofNone 0) (asks (signal setEvent 1) (wakeLent (sevens wakeLength))))
+    ≡ sees (0 ∷ 0 ∷ 0 ∷ 1 ∷ []) (wakeLent (1 ∷ 0 ∷ 0 ∷ sevens (wakeLength - 3))) (oneEvent 2 []))
+    × (seen (tableStep (ofNone 0) (asks (expire 0 50) (wakeLent (sevens wakeLength))))
+    ≡ sees (0 ∷ 0 ∷ 0 ∷ 1 ∷ []) (wakeLent (1 ∷ 5 ∷ 0 ∷ sevens (wakeLength - 3))) (oneEvent 2 []))
+    × (seen (tableStep (ofNone 0) (asks (cancel 1) nothingLent)) ≡ sees (6 ∷ 0 ∷ 0 ∷ 0 ∷ []) nothingLent (oneEvent 2 []))
+    × (seen (tableStep (oneEvent 1 []) (asks (wait all [] 7 0 0 1 50 0) nothingLent))
+    ≡ sees (1 ∷ 0 ∷ 0 ∷ 0 ∷ []) nothingLent (oneEvent 1 []))
+    × (seen (tableStep (ofNone 1) (asks (cancel 1) nothingLent)) ≡ sees (9 ∷ 0 ∷ 0 ∷ 0 ∷ []) nothingLent (ofNone 1))
 unfolding tableStep validTables sameCells view encode tabulate joined objectCells waitCells allOf oldest distinctTickets lowestSignaled allSignaled look attempt acquireEach anyAbandoned dequeue serve tryToServe member concernedBy walkQueue libraryStep firstRefusal records refusals change least lowestEmpty waitsFull enqueue allOccupied hasRepeat anyOf admits endEach
-table-readings = (refl, refl, refl, refl, refl, refl, refl, refl, refl, refl, refl)
+table-readings = (refl, refl, refl, refl, refl, refl, refl, refl, refl, refl, refl, refl, refl, refl, refl, refl, refl)
 
--- a text with a mutex, mode any and the real-time clock, of the state that the tables show
-pub text-reading : snapshotText (view held) ≡ heldText
+-- a text with a mutex, mode any and the real-time clock, of the state that the tables show; one of a wait without obj lines
+pub text-reading : (snapshotText (view held) ≡ heldText) × (snapshotText (view (ofNone 0)) ≡ ofNoneText)
 unfolding view tabulate joined oldest snapshotText objectText objectsText objectCount waitText queueFrom line digitsUpTo
-text-reading = refl
+text-reading = (refl, refl)

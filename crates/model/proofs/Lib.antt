@@ -17,6 +17,7 @@ pub mod SnapshotLength
 pub mod Answers
 pub mod Reports
 pub mod Places
+pub mod Sleeps
 pub mod Tables
 pub mod DamageExamples
 pub mod Theorems

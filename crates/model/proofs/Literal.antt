@@ -199,13 +199,13 @@ occupied-each os (h ∷ hs) f = rw (f 0 (omega arith), occupied-each os hs (λ k
 each-occupied : (os : List Object) (hs : List ℕ) → allOccupied os hs ≡ true → (k : ℕ) → k < length hs → occupied (objectAt os (getD hs k 0)) ≡ true
 each-occupied os hs e k l = allOccupied-in os hs e (getD hs k 0) (at-member (getD hs k 0) hs k l refl)
 
-not-short : (m : Mode) (hs : List ℕ) → not (listTooShort m hs) ≡ true → 1 ≤ length hs
-not-short any hs e = let z : length hs ≡ 0 → ⊥ = eqb-false (length hs) 0 (not-true _ e) in omega arith
-not-short all hs e = let z : length hs ≡ 0 → ⊥ = eqb-false (length hs) 0 (not-true _ e) in omega arith
+not-short : (m : Mode) (hs : List ℕ) → not (listTooShort m hs) ≡ true → modeCell m ≡ 1 → 1 ≤ length hs
+not-short any hs e m = absurd (let z : ⊥ = omega arith in z)
+not-short all hs e m = let z : length hs ≡ 0 → ⊥ = eqb-false (length hs) 0 (not-true _ e) in omega arith
 
-short-not : (m : Mode) (hs : List ℕ) → 1 ≤ length hs → not (listTooShort m hs) ≡ true
-short-not any hs l = rw (eqb-nonzero (length hs) l)
-short-not all hs l = rw (eqb-nonzero (length hs) l)
+short-not : (m : Mode) (hs : List ℕ) → (modeCell m ≡ 1 → 1 ≤ length hs) → not (listTooShort m hs) ≡ true
+short-not any hs l = refl
+short-not all hs l = rw (eqb-nonzero (length hs) (l refl))
 
 mode-low : (m : Mode) → modeCell m ≤ 1
 mode-low any = omega arith
@@ -262,7 +262,7 @@ module _ (s : State) (g : Valid s) where
         owner = rw (owner-is s p w h) (omega arith, ltb-true _ _ t1);
         below = rw (ticket-is s p w h, read-next s) ((g .tickets w m) .1);
         alone = alone-line p w l e;
-        listed = rw c (not-short (w .mode) (w .list) t4, n);
+        listed = rw (c, mode-is s p w h) (not-short (w .mode) (w .list) t4, n);
         occupied = λ k b. let b′ : k < length (w .list) = rw c at b in rw (list-is s p w h k b′) (occupied-line s (g .places) (getD (w .list) k 0) (each-occupied (s .objects) (w .list) t6 k b′));
         unused = λ k b u. rest-is s p w h k (rw c at b) u;
         alert = rw (alert-is s p w h) (byBool (eqb (w .alert) 0) (λ y. inl (eqb-true _ _ y)) (λ f. inr (event-line s (g .places) (w .alert) (rw f at t7))));
@@ -440,7 +440,6 @@ module _ (t : List ℕ) (c : ValidCells t) where
       let em : inWait t p 1 ≡ modeCell (w .mode) = at-view p 1 ∙ mode-is (view t) p w h in
       let el : (k : ℕ) → k < length (w .list) → inWait t p (headerSize + k) ≡ getD (w .list) k 0 = λ k b. at-view p (headerSize + k) ∙ list-is (view t) p w h k b in
       let o0 : 1 ≤ inWait t p 2 = v .owner .0 in let o1 : inWait t p 2 < word32 = v .owner .1 in let c1 : inWait t p 3 ≤ 1 = v .clock in
-      let n0 : 1 ≤ inWait t p 5 = v .listed .0 in
       let fit : ltb maxListed (length (w .list)) ≡ false = le-ltb maxListed (length (w .list)) (h .fits) in
       let no-owner : eqb (w .owner) 0 ≡ false = eqb-nonzero (w .owner) (omega arith) in
       let occ : allOccupied ((view t) .objects) (w .list) ≡ true = occupied-each ((view t) .objects) (w .list)
@@ -457,7 +456,7 @@ module _ (t : List ℕ) (c : ValidCells t) where
             lt-ltb (w .clock) 2 (omega arith),
             (
               lt-ltb (w .timeout) word64 (rw (← et) (v .timeout)),
-              (short-not (w .mode) (w .list) (omega arith), (rw fit, (occ, (al, (repeat-no (w .mode) (w .alert ∷ w .list) one, tt))))),
+              (short-not (w .mode) (w .list) (λ y. rw (← en) (v .listed .0 (em ∙ y))), (rw fit, (occ, (al, (repeat-no (w .mode) (w .alert ∷ w .list) one, tt))))),
             ),
           ),
         ),

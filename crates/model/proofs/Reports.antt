@@ -198,7 +198,7 @@ record Reported (ws end : List WaitPlace) (rs : List Report) (os next : List Obj
 silent : (ws end : List WaitPlace) (os : List Object) → Reported ws end [] os os
 silent ws end os = record { few = omega arith; rises = tt; left = tt; told = refl }
 
-admits-silent : (w : Wait) (time : ℕ) (s : State) → (admits w time s) .reports ≡ []
+pub admits-silent : (w : Wait) (time : ℕ) (s : State) → (admits w time s) .reports ≡ []
 unfolding admits
 admits-silent w time s = byOption (attempt (s .objects) w) (λ e. rw e (byBool (timeUp (w .timeout) time) (λ u. rw u) (λ u. rw u))) (λ t e. rw e)
 

@@ -16,14 +16,14 @@ use Rattle.model.specs.Calls.{waitFaults, timeUp}
 use Rattle.model.specs.Calls.{newWait, mustQueue, waitsFull, refusals, admits, change, WithinWidths}
 use Rattle.model.specs.Layout.{objectSize, waitSize, tableLength, objectCells, waitCells, encode, view}
 use Rattle.model.specs.Layout.{validTables}
-use Rattle.model.specs.Sizes.{objectPlaces, waitPlaces, ticketsEnd}
+use Rattle.model.specs.Sizes.{objectPlaces, waitPlaces, ticketsEnd, never}
 use Rattle.model.specs.Objects.{Object, empty, signaled}
 use Rattle.model.specs.Steps.{Outcome, unaltered, conditions, firstRefusal, records, libraryStep, referenceStep}
 use Rattle.model.specs.Steps.{onTables, asRead, tableStep, run, makeTables}
 use Rattle.model.specs.Notions.{refusalNumbers, FirstIs, Quiet, touched, Rising, AllOrNone, LongEnough}
 use Rattle.model.specs.Notions.{wrongObject, _isIn_}
-use Rattle.model.specs.Waits.{Mode, all, Wait, free, waiting, State, initial, objectAt, Grant, attempt, servable}
-use Rattle.model.specs.Waits.{anyAbandoned, servedAnswer, wakeByWalk, wakeBySearch}
+use Rattle.model.specs.Waits.{Mode, any, all, Wait, free, waiting, State, initial, objectAt, Grant, attempt}
+use Rattle.model.specs.Waits.{servable, anyAbandoned, servedAnswer, wakeByWalk, wakeBySearch}
 use Rattle.model.proofs.History.{Settled, step-same, step-settled, initial-settled}
 use Rattle.model.proofs.Waking.{each, search-quiet}
 use Rattle.model.proofs.Queue.{count-length}
@@ -33,6 +33,7 @@ use Rattle.model.proofs.Validity.{tables-valid, encoded-valid}
 use Rattle.model.proofs.Reports.{step-pulse, Left, Told, ByReports, step-room, step-left, step-rises, step-told}
 use Rattle.model.proofs.Reports.{step-all-queued, unserved-all, not-served, step-all-now}
 use Rattle.model.proofs.Places.{LowestFilled, step-creates, step-cancels}
+use Rattle.model.proofs.Sleeps.{attempt-none, step-unended}
 use Rattle.model.proofs.Rules.{perform-case}
 use Rattle.model.proofs.Answers.{step-short, step-wrong, refusal-never, step-low, step-refused}
 use Rattle.model.proofs.Answers.{step-ended, step-spends}
@@ -189,6 +190,11 @@ tables-rise t c = tables-case t c (λ o. Rising 0 (o .reports)) (λ n. tt) (λ e
 pub tables-spend : (t : List ℕ) (c : Call) → WithinWidths c
     → (view ((tableStep t c) .held)) .next ≡ cond (eqb ((tableStep t c) .answer) 11) (suc ((view t) .next)) ((view t) .next)
 tables-spend t c fit = left-tables t c fit (λ s o. s .next ≡ cond (eqb (o .answer) 11) (suc ((view t) .next)) ((view t) .next)) refl (λ g. step-spends (view t) c)
+
+pub tables-sleeps : (t : List ℕ) (c : Call) → WithinWidths c → (p : ℕ) (w : Wait) → getD ((view t) .waits) p free ≡ waiting w
+    → w .mode ≡ any → w .list ≡ [] → w .alert ≡ 0 → w .timeout ≡ never → (c .operation ≡ cancel (w .ticket) → ⊥) → getD ((view ((tableStep t c) .held)) .waits) p free ≡ waiting w
+tables-sleeps t c fit p w e m l a n d = left-tables t c fit (λ s o. getD (s .waits) p free ≡ waiting w) e
+    (λ g. step-unended (view t) c p w g e (λ os. attempt-none os w m l ∙ rw a) n d)
 
 pub tables-told : (t : List ℕ) → validTables t ≡ true → (c : Call) → WithinWidths c → firstRefusal (conditions c (view t)) ≡ none
     → (ByReports Told (view t) (change (c .operation) (view t)) ((tableStep t c) .reports) ((view ((tableStep t c) .held)) .objects))

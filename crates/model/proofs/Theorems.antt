@@ -3,16 +3,16 @@
 use mathlib.Core.Path.{_≡_, ap}
 use mathlib.Core.Bool.{true, false, not, cond}
 use mathlib.Core.List.{List, [], _∷_, map}
-use mathlib.Core.Option.{Option, none}
+use mathlib.Core.Option.{Option, none, some}
 use mathlib.Core.Logic.{_⊎_, _↔_}
 use Prim.Native.Nat.{ℕ, suc, _≤_, _<_}
 use lib.ListN.{length, getD}
 use lib.Dec.{eqb}
-use Rattle.model.specs.Sizes.{objectPlaces, ticketsEnd, snapshotBuffer, longestSnapshot}
+use Rattle.model.specs.Sizes.{objectPlaces, ticketsEnd, never, snapshotBuffer, longestSnapshot}
 use Rattle.model.specs.Basics.{corrupt, maybe, anyOf, member, hasRepeat, All, overwrite}
 use Rattle.model.specs.Objects.{Object, empty, occupied, signaled, cleared}
-use Rattle.model.specs.Waits.{Mode, all, Wait, free, waiting, State, initial, objectAt, putAt, servable}
-use Rattle.model.specs.Waits.{wakeBySearch}
+use Rattle.model.specs.Waits.{Mode, any, all, Wait, free, waiting, State, initial, objectAt, putAt, attempt}
+use Rattle.model.specs.Waits.{servable, wakeBySearch}
 use Rattle.model.specs.Snapshot.{snapshotText}
 use Rattle.model.specs.Calls.{wait, cancel, Lent, nothingLent, Call, asks, refusal, waitFaults, timeUp, newWait}
 use Rattle.model.specs.Calls.{Kind, create, newObject, pulseEvent, signal, waitsFull, change, WithinWidths}
@@ -25,12 +25,13 @@ use Rattle.model.specs.Notions.{OneByOne, AllOrNone, LongEnough, wrongOb
 use Rattle.model.proofs.History.{initial-settled}
 use Rattle.model.proofs.Literal.{test-lines, lines-test}
 use Rattle.model.proofs.Reports.{rising-once}
+use Rattle.model.proofs.Sleeps.{attempt-none}
 use Rattle.model.proofs.SnapshotLength.{snapshot-longest, snapshot-fits, longest, longest-length, longest-valid}
 use Rattle.model.proofs.Tables.{tables-refuse, tables-unknown, search-ends, tables-low, tables-refused}
 use Rattle.model.proofs.Tables.{tables-ended, tables-exactly, wait-queued}
 use Rattle.model.proofs.Tables.{tables-objects, tables-stays, tables-free, tables-room, tables-wake, tables-left}
 use Rattle.model.proofs.Tables.{tables-pulse, tables-rise, tables-spend, tables-told, tables-all-now}
-use Rattle.model.proofs.Tables.{tables-creates, tables-cancels, settled-run}
+use Rattle.model.proofs.Tables.{tables-creates, tables-cancels, tables-sleeps, settled-run}
 use Rattle.model.proofs.Tables.{settled-read, run-quiet}
 use Rattle.model.proofs.Tables.{reference-uncorrupted, run-uncorrupted, make-either, settled-rows}
 use Rattle.model.proofs.Validity.{test-valid, valid-test}
@@ -238,3 +239,16 @@ longest-snapshot s v = (snapshot-longest s (test-valid s v), snapshot-fits s (te
 
 pub longest-reached : (validState longest ≡ true) × (length (snapshotText longest) ≡ longestSnapshot)
 longest-reached = (valid-test longest longest-valid, longest-length)
+
+-- 9. A WAIT FOR ANY OF NO OBJECTS (1/13): "it can be served by its alert, end by time, or be cancelled." Its attempt is
+-- the alert's, with index 0 (the list's length); so without alert and with timeout never, any call on any cells but the
+-- cancel of its ticket leaves it in its place with all its values.
+pub sleep-by-alert : (os : List Object) (w : Wait) → w .mode ≡ any → w .list ≡ []
+    → attempt os w ≡ cond (signaled (w .owner) (objectAt os (w .alert)))
+    (some record { handles = w .alert ∷ []; index = 0 }) none
+sleep-by-alert os w m l = attempt-none os w m l
+
+pub sleep-only-cancelled : (t : List ℕ) (c : Call) → WithinWidths c → (p : ℕ) (w : Wait)
+    → getD ((view t) .waits) p free ≡ waiting w → w .mode ≡ any → w .list ≡ [] → w .alert ≡ 0 → w .timeout ≡ never
+    → (c .operation ≡ cancel (w .ticket) → ⊥) → getD ((view ((tableStep t c) .held)) .waits) p free ≡ waiting w
+sleep-only-cancelled t c fit p w = tables-sleeps t c fit p w

@@ -9,7 +9,7 @@ objectPlaces = 128
 abbrev pub waitPlaces : ℕ
 waitPlaces = 32
 
--- "1 to 64 handles in a wait's list (64 is NT's own limit ..)."
+-- "1 to 64 handles in a wait's list (64 is NT's own limit ..)", by 1/13 none too for any.
 abbrev pub maxListed : ℕ
 maxListed = 64
 

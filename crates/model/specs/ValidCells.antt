@@ -39,8 +39,8 @@ pub record ValidWait (t : List ℕ) (p : ℕ) : Type 0 where
   -- "a ticket of 1 or more [`queued` below] that no other wait has and that is below the next ticket"
   pub below : inWait t p 0 < getD t 0 0
   pub alone : (q : ℕ) → q < waitPlaces → inWait t q 0 ≡ inWait t p 0 → q ≡ p
-  -- "a list of 1 to 64 occupied handles"; "unused list cells hold zeros"
-  pub listed : (1 ≤ inWait t p 5) × (inWait t p 5 ≤ maxListed)
+  -- "a list of 1 to 64 occupied handles", and 1/13: "Sound tables allow n=0 for any"; "unused list cells hold zeros"
+  pub listed : (inWait t p 1 ≡ 1 → 1 ≤ inWait t p 5) × (inWait t p 5 ≤ maxListed)
   pub occupied : (k : ℕ) → k < inWait t p 5 → Occupied t (inWait t p (headerSize + k))
   pub unused : (k : ℕ) → inWait t p 5 ≤ k → k < maxListed → inWait t p (headerSize + k) ≡ 0
   -- "an alert that is 0 or an event's handle"

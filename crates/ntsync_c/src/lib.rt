@@ -16,11 +16,11 @@ use ntsync::Written;
 use signals::Changed;
 
 // It rises with every change of a signature or of an argument's meaning; the header has the same number.
-pub const VERSION: u32 = 1;
+pub const VERSION: u32 = 2;
 
 #[no_mangle]
 pub extern "C" fn ntsync_version() -> u32
-    ensures { λ r. ⌜ r ≡ 1 ⌝ }
+    ensures { λ r. ⌜ r ≡ 2 ⌝ }
 {
     VERSION
 }

@@ -1,6 +1,6 @@
 -- The validity check on cells that are 64-bit words is the test of the meaning, both ways, by way of document 01's list.
 use mathlib.Core.Path.{_≡_, refl, ap, sym, _∙_}
-use mathlib.Core.Bool.{true, false, not, _||_, cond}
+use mathlib.Core.Bool.{true, false, not, _||_, _&&_, cond}
 use mathlib.Core.List.{List, [], _∷_}
 use mathlib.Core.Logic.{inl, inr, ⊎-elim}
 use Prim.Native.Nat.{ℕ, _+_, _-_, _≤_, _<_}
@@ -177,7 +177,7 @@ wait-to t words c p l z = let (t0, (t1, (t2, (t3, (t4, (t5, (t6, (t7, (t8, (t9, 
       owner = (ltb-true _ _ t3, ltb-true _ _ t4);
       below = ltb-true _ _ t0;
       alone = alone-all t c p l z;
-      listed = (let q : inWait t p 5 ≡ 0 → ⊥ = eqb-false _ _ (not-true _ t6) in omega arith, n);
+      listed = (λ m. let q : (eqb (inWait t p 1) 1 && eqb (inWait t p 5) 0) ≡ false = not-true _ t6 in let z : inWait t p 5 ≡ 0 → ⊥ = eqb-false _ _ (rw m at q) in omega arith, n);
       occupied = λ k b. rw (← (list-at t (c .0) p l k (omega arith))) (occupied-to t (getD (listOf t p) k 0) (all-at (λ i. occupiedAt t (getD (listOf t p) i 0)) (length (listOf t p)) t8 k (omega arith)));
       unused = λ k b u. let q : inWait t p (headerSize + countAt t p + (k - countAt t p)) ≡ 0 = eqb-true _ _ (all-at (λ k. eqb (inWait t p (headerSize + countAt t p + k)) 0) (maxListed - countAt t p) t9 (k - countAt t p) (omega arith)) in
           let i : headerSize + k ≡ headerSize + countAt t p + (k - countAt t p) = omega arith in rw i q;
@@ -206,9 +206,10 @@ cells-lines t words e = let c = checked t e in record {
 wait-from : (t : List ℕ) → length t ≡ tableLength → (p : ℕ) → p < waitPlaces → ValidWait t p → validQueued t p ≡ true
 unfolding validQueued occupiedList unusedZero tooFew aloneAt ticketAt modeAt ownerAt clockAt alertAt
 wait-from t size p l v =
-    let n0 : 1 ≤ inWait t p 5 = v .listed .0 in let n1 : inWait t p 5 ≤ maxListed = v .listed .1 in
+    let n1 : inWait t p 5 ≤ maxListed = v .listed .1 in
     let cn : countAt t p ≡ inWait t p 5 = count-cell t p n1 in let ln : length (listOf t p) ≡ countAt t p = list-length t size p l in
-    let no-count : eqb (inWait t p 5) 0 ≡ false = ne-eqb (inWait t p 5) 0 (λ z. let y : ⊥ = omega arith in y) in
+    let enough : (eqb (inWait t p 1) 1 && eqb (inWait t p 5) 0) ≡ false = byBool (eqb (inWait t p 1) 1)
+    (λ y. let a : 1 ≤ inWait t p 5 = v .listed .0 (eqb-true _ _ y) in rw (y, ne-eqb (inWait t p 5) 0 (λ z. let y : ⊥ = omega arith in y))) (λ f. rw f) in
     let once : inWait t p 1 ≡ 1 → (has (listOf t p) (inWait t p 6) ≡ false) × (repeatedList (listOf t p) ≡ false) = λ m. (
       has-is (listOf t p) (inWait t p 6) ∙ byBool (member (inWait t p 6) (listOf t p))
           (λ y. let r = member-at (inWait t p 6) (listOf t p) y in let b : r .0 < length (listOf t p) = r .1 in absurd ((v .once m (r .0) (omega arith)) .0 (sym (list-at t size p l (r .0) (omega arith)) ∙ r .2))) (λ f. f),
@@ -230,7 +231,7 @@ wait-from t size p l v =
               (
                 le-leb _ _ (v .clock),
                 (
-                  rw no-count,
+                  rw enough,
                   (
                     le-leb _ _ n1,
                     (

@@ -127,11 +127,11 @@ pub fn proper_list(t: &[u64], mode: u64, list: &[u64], alert: u64) -> bool
     occupied_once(t, mode, list, alert)
 }
 
-// Refusing an empty list is house.
+// A wait for any may have no objects (1/13); refusing an empty list for all is house.
 pub fn too_few(mode: u64, n: u64) -> bool
     ensures { λ r. ⌜ r ≡ tooFew mode n ⌝ }
 {
-    n == 0
+    (mode == 1) & (n == 0)
 }
 
 // ---- waits

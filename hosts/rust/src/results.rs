@@ -42,7 +42,8 @@ pub struct EventState {
 pub enum Outcome {
     /// It holds what it waited for.
     Served {
-        /// The place in the list of the object that served it, 0 for a wait for all; the list's length for the alert.
+        /// The place in the list of the object that served it, 0 for a wait for all; the list's length for the alert,
+        /// so 0 where the list is empty.
         index: usize,
         /// EOWNERDEAD: an acquired mutex had been abandoned, so what it guards may be half written.
         owner_dead: bool,

@@ -473,7 +473,8 @@ impl Tables {
 
 /// Waiting: no call blocks.
 impl Tables {
-    /// Waits for the first listed object that can be acquired.
+    /// Waits for the first listed object that can be acquired. Over no objects it is a sleep: its alert, its deadline or
+    /// [`Tables::cancel`] ends it.
     ///
     /// # Errors
     ///
@@ -505,7 +506,8 @@ impl Tables {
     ///
     /// # Errors
     ///
-    /// As for [`Tables::wait_any`]; a handle that occurs twice, the alert included, is a bad argument.
+    /// As for [`Tables::wait_any`]; an empty list is a bad argument, and so is a handle that occurs twice, the alert
+    /// included.
     ///
     /// ```
     /// use ntsync::{Owner, Refusal, Tables, Ticket, Wait, Waited, WakeList};

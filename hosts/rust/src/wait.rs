@@ -12,6 +12,19 @@ use crate::numbers::{Clock, Deadline, Handle, Now, Owner};
 /// assert_eq!((wait.alert, wait.deadline), (Some(Handle(3)), Deadline(500)));
 /// ```
 ///
+/// A wait for any of no objects is a sleep: its alert, its deadline or [`Tables::cancel`](crate::Tables::cancel) ends it.
+///
+///
+/// ```
+/// use ntsync::{Clock, Deadline, Now, Outcome, Owner, Refusal, Tables, Ticket, Wait, Waited, WakeList, Woken};
+/// let (mut tables, mut wake) = (Tables::new(), WakeList::new());
+/// let sleep = Wait::new(&[], Owner(7)).until(Clock::Monotonic, Deadline(500), Now(400));
+/// assert_eq!(tables.wait_any(sleep)?, Waited::Queued(Ticket(1)));
+/// let ended: Vec<Woken> = tables.expire(Clock::Monotonic, Now(500), &mut wake)?.iter().collect();
+/// assert_eq!(ended, [Woken { ticket: Ticket(1), outcome: Outcome::TimedOut }]);
+/// # Ok::<(), Refusal>(())
+/// ```
+///
 /// Deadline and present time can't be exchanged:
 ///
 /// ```compile_fail,E0308
@@ -30,7 +43,7 @@ use crate::numbers::{Clock, Deadline, Handle, Now, Owner};
 #[derive(Clone, Copy, Debug, PartialEq, Eq)]
 #[must_use = "a wait is asked for by wait_any or wait_all; each method here hands back a changed copy"]
 pub struct Wait<'a> {
-    /// 1 to 64 handles; for a wait for all none twice.
+    /// 0 to 64 handles; for a wait for all 1 to 64, none twice.
     pub list: &'a [Handle],
     /// Who waits, not 0; it owns the mutexes that the wait acquires.
     pub owner: Owner,
@@ -45,7 +58,7 @@ pub struct Wait<'a> {
 }
 
 impl<'a> Wait<'a> {
-    /// A wait without alert that never times out.
+    /// A wait without alert that never times out: over no objects, it can only be cancelled.
     pub const fn new(list: &'a [Handle], owner: Owner) -> Wait<'a> {
         Wait { list, owner, alert: None, clock: Clock::Monotonic, deadline: Deadline::NEVER, now: Now(0) }
     }

@@ -13,7 +13,7 @@ pub enum Waking {
     Walk,
 }
 
-/// Slips of document 01, to be put into the model on purpose.
+/// Slips of document 01 and of its changes, to be put into the model on purpose.
 #[derive(Clone, Copy, PartialEq, Eq, Debug)]
 pub enum Slip {
     /// Waking after unlock only when the count reaches zero.
@@ -26,6 +26,10 @@ pub enum Slip {
     AlertFirst,
     /// Handle 0 is not tested and names the first place.
     HandleZeroNames,
+    /// A wait for any without objects is refused, as before 1/13.
+    EmptyAnyRefused,
+    /// A wait for all over nothing is let pass.
+    EmptyAllPasses,
 }
 
 pub struct Model {
@@ -162,7 +166,7 @@ impl Model {
             | Call::Reset { handle }
             | Call::Pulse { handle, .. } => self.event(handle).is_none(),
             Call::Wait { mode, ref list, owner, alert, flags, pad, .. } => {
-                self.bad_list(list)
+                self.bad_list(mode, list)
                     || owner == 0
                     || flags > 1
                     || pad != 0
@@ -174,8 +178,14 @@ impl Model {
         }
     }
 
-    fn bad_list(&self, list: &[u32]) -> bool {
-        list.is_empty() || list.len() > LIST || list.iter().any(|&handle| self.object(handle).is_none())
+    /// A wait for any may have no objects (1/13).
+    fn bad_list(&self, mode: Mode, list: &[u32]) -> bool {
+        let fewest = match mode {
+            Mode::Any if self.has_slip(Slip::EmptyAnyRefused) => 1,
+            Mode::All if !self.has_slip(Slip::EmptyAllPasses) => 1,
+            _ => 0,
+        };
+        !(fewest..=LIST).contains(&list.len()) || list.iter().any(|&handle| self.object(handle).is_none())
     }
 
     // The bare change: the call's rule without its walk.

@@ -1,6 +1,7 @@
 //! What the random histories met. Every line that is required must have occurred.
 
-use second_model::{Call, Mode, Object, Outcome, Report, State, LIST, OBJECTS, TICKETS_SPENT, WAITS, WAKE_CELLS};
+use second_model::{Call, Mode, Object, Outcome, Report, State, Wait};
+use second_model::{LIST, OBJECTS, TICKETS_SPENT, WAITS, WAKE_CELLS};
 use std::collections::BTreeMap;
 
 /// Every call and every answer that it can have on sound tables: each must have been seen, and no other.
@@ -25,7 +26,7 @@ pub const ANSWERS: [(&str, &[u32]); 18] = [
     ("picture", &[0, 12]),
 ];
 
-const SITUATIONS: [&str; 70] = [
+const SITUATIONS: [&str; 79] = [
     "queue filled to 32",
     "no room with tickets spent",
     "served with the queue full",
@@ -48,7 +49,16 @@ const SITUATIONS: [&str; 70] = [
     "post of 0",
     "post of 0 with waits queued on it",
     "post past 2^32-1",
-    "list of 0",
+    "list of 0 refused, all",
+    "list of 0 refused, any, for another argument",
+    "list of 0 queued with alert",
+    "list of 0 queued without alert",
+    "list of 0 served by its alert",
+    "list of 0 timed out",
+    "list of 0 woken by its alert",
+    "list of 0 ended by time",
+    "list of 0 cancelled",
+    "list of 0 keeps its alert busy",
     "list of 1 queued",
     "list of 63 queued",
     "list of 64 queued",
@@ -212,6 +222,11 @@ impl Coverage {
                 self.met("pulse wakes several", several);
                 self.met("pulse of a set event", done && outcome.numbers[0] == 1);
             }
+            Call::Cancel { ticket } => self.met("list of 0 cancelled", before.queued.contains(&(ticket, 0))),
+            Call::Close { handle } => {
+                let alert_of_none = |wait: &Wait| wait.list.is_empty() && wait.alert == handle;
+                self.met("list of 0 keeps its alert busy", outcome.answer == 10 && after.queued().any(alert_of_none));
+            }
             _ => {}
         }
     }
@@ -259,7 +274,10 @@ impl Coverage {
         self.met("handle 129 refused", refused && list.contains(&129));
         self.met("handle 0 refused", refused && list.contains(&0));
         self.met("handle 128 in a queued list", queued && list.contains(&128));
-        self.met("list of 0", refused && n == 0);
+        self.met("list of 0 refused, all", all && refused && n == 0);
+        self.met("list of 0 refused, any, for another argument", any && refused && n == 0);
+        self.met("list of 0 queued with alert", queued && n == 0 && alert != 0);
+        self.met("list of 0 queued without alert", queued && n == 0 && alert == 0);
         self.met("list of 1 queued", queued && n == 1);
         self.met("list of 63 queued", queued && n == 63);
         self.met("list of 64 queued", queued && n == LIST);
@@ -292,6 +310,8 @@ impl Coverage {
         let by_alert = served && index == n;
         self.met("served by alert", by_alert);
         self.met("alert index 64", by_alert && n == 64);
+        self.met("list of 0 served by its alert", by_alert && n == 0);
+        self.met("list of 0 timed out", answer == 5 && n == 0);
         self.met("alert taken though an abandoned mutex is listed", by_alert && all && before.abandoned_listed > 0);
         self.met("list taken though the alert is signaled", served && !by_alert && before.alert_signaled);
         self.met("list of 64 served by all", all && served && n == LIST && !by_alert);
@@ -348,6 +368,8 @@ impl Coverage {
             !ended && reports.iter().any(|report| listed(report) == Some(report.index as usize)),
         );
         self.met("woken with 64 listed", !ended && reports.iter().any(|report| listed(report) == Some(LIST)));
+        self.met("list of 0 woken by its alert", !ended && reports.iter().any(|report| listed(report) == Some(0)));
+        self.met("list of 0 ended by time", ended && reports.iter().any(|report| listed(report) == Some(0)));
     }
 
     /// Takes in what another thread met.

@@ -220,7 +220,7 @@ impl Damage {
 
     fn write_wait(&mut self, tables: &mut [u64]) -> usize {
         let at = layout::wait_at(self.random.below(WAITS));
-        let n = self.random.pick(&[1, 1, 2, 3, 5, LIST]);
+        let n = self.random.pick(&[0, 1, 1, 2, 3, 5, LIST]);
         let occupied: Vec<u64> =
             (0..OBJECTS).filter(|&place| self.base.objects[place].is_some()).map(|place| place as u64 + 1).collect();
         let handle = |random: &mut Random| match random.below(60) {
@@ -241,7 +241,7 @@ impl Damage {
             *cell = if place < n { handle(random) } else { 0 };
         }
         if random.percent(10) {
-            tables[at + 5] = random.pick(&[0, n as u64 + 1, n as u64 - 1, 64, 65]);
+            tables[at + 5] = random.pick(&[0, n as u64 + 1, (n as u64).saturating_sub(1), 64, 65]);
         }
         at
     }

@@ -6,7 +6,7 @@ use crate::lent;
 use crate::library;
 use crate::play::Bench;
 use crate::script::{heard_text, step_or_text};
-use second_model::{Call, Outcome, Report, LIST, NEVER, OBJECTS, PICTURE_BYTES, WAITS, WAKE_CELLS};
+use second_model::{Call, Mode, Outcome, Report, LIST, NEVER, OBJECTS, PICTURE_BYTES, WAITS, WAKE_CELLS};
 
 pub const MAX: u32 = u32::MAX;
 
@@ -18,7 +18,7 @@ pub struct Case {
 pub type Done = Result<(), String>;
 type Test = (&'static str, fn(&mut Case) -> Done);
 
-const TESTS: [Test; 30] = [
+const TESTS: [Test; 31] = [
     ("P1, P2 and the picture", p1_p2),
     ("P3, P4", p3_p4),
     ("P5, P6", p5_p6),
@@ -30,6 +30,7 @@ const TESTS: [Test; 30] = [
     ("handles 128, 129, 0", handles),
     ("the 129th object", object_129),
     ("lists of 0, 1, 63, 64, 65", lists),
+    ("an empty list, ended each way", empty_lists),
     ("the 33rd wait", wait_33),
     ("tickets spent at 2^64-1", tickets_spent),
     ("the last ticket, 2^64-2", last_ticket),
@@ -104,7 +105,11 @@ impl Case {
     }
 
     pub fn fill_queue(&mut self, call: &Call) -> Done {
-        (1..=WAITS as u64).try_for_each(|ticket| self.queues(call.clone(), ticket))
+        self.fill_from(1, call)
+    }
+
+    fn fill_from(&mut self, first: u64, call: &Call) -> Done {
+        (first..first + WAITS as u64).try_for_each(|ticket| self.queues(call.clone(), ticket))
     }
 }
 
@@ -250,7 +255,8 @@ fn lists(case: &mut Case) -> Done {
         for call in
             [any(1, 66, NEVER, &different[..n]), all(1, 66, NEVER, &different[..n]), any(1, 66, NEVER, &vec![3; n])]
         {
-            if n == 0 || n > LIST {
+            let none_for_all = n == 0 && matches!(call, Call::Wait { mode: Mode::All, .. });
+            if none_for_all || n > LIST {
                 case.answers(call, 1)?;
                 continue;
             }
@@ -258,11 +264,9 @@ fn lists(case: &mut Case) -> Done {
             case.queues(call, ticket)?;
         }
     }
-    case.wakes(
-        set(66),
-        0,
-        &[(1, 0, 1), (2, 0, 1), (3, 0, 1), (4, 0, 63), (5, 0, 63), (6, 0, 63), (7, 0, 64), (8, 0, 64), (9, 0, 64)],
-    )?;
+    let by_alert = [0, 0, 1, 1, 1, 63, 63, 63, 64, 64, 64];
+    let woken: Vec<(u64, u32, u32)> = (1..).zip(by_alert).map(|(ticket, index)| (ticket, 0, index)).collect();
+    case.wakes(set(66), 0, &woken)?;
     case.hears(all(1, 66, NEVER, &different[..64]), 0, [64, 0], &[])?;
     for handle in 1..=64 {
         case.wakes(set(handle), 0, &[])?;
@@ -271,6 +275,39 @@ fn lists(case: &mut Case) -> Done {
     let mut last_set = vec![65; 63];
     last_set.push(64);
     case.hears(any(1, 66, NEVER, &last_set), 0, [63, 0], &[])
+}
+
+const SLEEPS: &str = "next=2\nobjects=1\nhandle=1\nkind=event\nsignaled=0\nmanual=0\n\
+    waits=1\nwait=1\nmode=any\nowner=7\nclock=mono\ntimeout=50\nalert=1\nn=0\n";
+
+/// 1/13: served by its alert, ended by time, or cancelled.
+fn empty_lists(case: &mut Case) -> Done {
+    case.create(&[event(0, 0)])?;
+    case.queues(any(7, 1, 50, &[]), 1)?;
+    let picture = case.step(&Call::Picture { bytes: PICTURE_BYTES })?;
+    if picture.text != SLEEPS.as_bytes() {
+        return Err(format!("picture {}", String::from_utf8_lossy(&picture.text)));
+    }
+    case.answers(Call::Close { handle: 1 }, 10)?;
+    case.wakes(set(1), 0, &[(1, 0, 0)])?;
+    case.reads(Call::ReadEvent { handle: 1 }, 0, 0)?;
+    case.queues(any(7, 1, 50, &[]), 2)?;
+    case.queues(any(7, 0, 50, &[]), 3)?;
+    case.wakes(expire(0, 49), 0, &[])?;
+    case.wakes(expire(0, 50), 0, &[(2, 5, 0), (3, 5, 0)])?;
+    case.queues(any(7, 0, NEVER, &[]), 4)?;
+    case.wakes(set(1), 0, &[])?;
+    case.wakes(expire(0, NEVER), 0, &[])?;
+    case.answers(Call::Cancel { ticket: 4 }, 6)?;
+    case.answers(any(7, 0, 0, &[]), 5)?;
+    case.answers(any(7, 1, 0, &[]), 0)?;
+    case.answers(any(7, 1, 0, &[]), 5)?;
+    case.answers(Call::Close { handle: 1 }, 0)?;
+    case.answers(any(7, 1, NEVER, &[]), 1)?;
+    case.answers(any(0, 0, NEVER, &[]), 1)?;
+    case.fill_from(5, &any(7, 0, NEVER, &[]))?;
+    case.answers(any(7, 0, NEVER, &[]), 7)?;
+    case.answers(all(7, 0, NEVER, &[]), 1)
 }
 
 fn wait_33(case: &mut Case) -> Done {

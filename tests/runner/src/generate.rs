@@ -231,7 +231,8 @@ impl Mood {
 
     fn list(&self, random: &mut Random, state: &State, mode: Mode, owner: u32) -> Vec<u32> {
         let length = match self.length {
-            _ if random.percent(2) => random.pick(&[0, 63, 64, 65, 66, 256, 257]),
+            _ if random.percent(4) => 0,
+            _ if random.percent(2) => random.pick(&[63, 64, 65, 66, 256, 257]),
             Length::Short => 1 + random.below(4),
             Length::Mixed => 1 + random.below(12),
             Length::Long => random.pick(&[1, 2, 30, 62, 63, 64, 64, 65]),

@@ -25,7 +25,7 @@ pub const LINES: [&str; 17] = [
     "a wait of owner 0",
     "a ticket twice",
     "a ticket not below the next",
-    "a list not of 1 to 64",
+    "a list of over 64, or of none for all",
     "a listed handle without object",
     "an alert that is no event",
     "a handle twice in a wait for all",
@@ -101,7 +101,7 @@ fn judge_wait(tables: &[u64], cells: &[u64], lines: &mut Vec<&'static str>) {
     let (list, unused) = cells[LIST_AT..].split_at(n.min(LONGEST_LIST as u64) as usize);
     note(lines, "a cell out of its range", mode > 1 || wide(owner) || clock > 1);
     note(lines, "a wait of owner 0", owner == 0);
-    note(lines, "a list not of 1 to 64", n == 0 || n > LONGEST_LIST as u64);
+    note(lines, "a list of over 64, or of none for all", n > LONGEST_LIST as u64 || (n == 0 && mode == 1));
     note(lines, "an unused list cell not zero", any_set(unused));
     note(lines, "a listed handle without object", list.iter().any(|&handle| kind_of(tables, handle) == 0));
     note(lines, "an alert that is no event", alert != 0 && kind_of(tables, alert) != 3);

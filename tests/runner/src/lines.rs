@@ -153,18 +153,21 @@ fn full_list(n: u64) -> Edits {
 }
 
 fn list_rows() -> Vec<Row> {
-    let length = Some("a list not of 1 to 64");
+    let length = Some("a list of over 64, or of none for all");
     let unused = Some("an unused list cell not zero");
     let listed = |at: usize| move |value: u64| in_wait(0, LIST_AT + at, value);
-    let empty = |n: u64| [in_wait(0, N, n), listed(0)(0), listed(1)(0)].concat();
+    let empty_in = |place: usize, n: u64| [N, LIST_AT, LIST_AT + 1].map(|cell| (wait_at(place) + cell, n)).to_vec();
+    let empty = |place: usize| move |n: u64| empty_in(place, n);
     let shorter = |n: u64| [in_wait(0, N, n), listed(1)(0)].concat();
     [
         rows(length, full_list, &[65, 71, 128, LARGE, LARGE + 64, u64::MAX]),
-        rows(length, empty, &[0]),
+        rows(length, empty(1), &[0]),
+        rows(length, empty(2), &[0]),
         rows(unused, listed(2), &[6, 1, LARGE, u64::MAX]),
         rows(unused, listed(LIST - 1), &[6, 1, LARGE, u64::MAX]),
-        rows(unused, |n| in_wait(0, N, n), &[1]),
-        rows(unused, full_list, &[1, 2, 63]),
+        rows(unused, |n| in_wait(0, N, n), &[0, 1]),
+        rows(unused, full_list, &[0, 1, 2, 63]),
+        rows(None, empty(0), &[0]),
         rows(None, full_list, &[64]),
         rows(None, shorter, &[1]),
     ]

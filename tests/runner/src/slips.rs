@@ -1,4 +1,4 @@
-//! Each slip of document 01, put into the second model, must be found by the random histories, and its script must be
+//! Each slip of document 01 and of its changes, put into the second model, must be found by the random histories, and its script must be
 //! the shrunk history when it is read back.
 
 use crate::history::{play_many, Failure};
@@ -12,12 +12,14 @@ const SEED: u64 = 5;
 /// In which each slip must be found.
 const CALLS: u64 = 200_000;
 
-const SLIPS: [(Slip, &str); 5] = [
+const SLIPS: [(Slip, &str); 7] = [
     (Slip::UnlockWakesAtZero, "unlock wakes only at zero"),
     (Slip::KeepPartOfAll, "part of a wait for all kept"),
     (Slip::OwnerDeadRefuses, "EOWNERDEAD refuses"),
     (Slip::AlertFirst, "alert first"),
     (Slip::HandleZeroNames, "handle 0 names an object"),
+    (Slip::EmptyAnyRefused, "empty list refused for any"),
+    (Slip::EmptyAllPasses, "empty list let pass for all"),
 ];
 
 pub fn run(limits: Limits) -> Result<String, String> {

@@ -137,6 +137,25 @@ fn an_alert_ends_a_wait_behind_the_list() {
 }
 
 #[test]
+fn a_wait_for_none_sleeps() {
+    let (mut tables, mut wake) = empty();
+    let alert = tables.create_event(false, false).unwrap();
+    let sleep = Wait::new(&[], Owner(7));
+    let until = |deadline| sleep.until(Clock::Monotonic, Deadline(deadline), Now(40));
+    assert_eq!(tables.wait_any(sleep.alert(alert)), queued(1));
+    assert_eq!(tables.set(alert, &mut wake).map(change), Ok((false, vec![woken(1, 0)])));
+    assert_eq!(tables.read_event(alert), Ok(EventState { signaled: false, manual: false }));
+    assert_eq!(tables.wait_any(until(50)), queued(2));
+    assert_eq!(tables.wait_any(sleep), queued(3));
+    let ended = records(tables.expire(Clock::Monotonic, Now(u64::MAX), &mut wake).unwrap());
+    assert_eq!(ended, [(2, Outcome::TimedOut)]);
+    assert_eq!(tables.cancel(Ticket(3)), Ok(Outcome::Interrupted));
+    assert_eq!(tables.wait_any(until(40)), Ok(Waited::Over(Outcome::TimedOut)));
+    assert_eq!(tables.set(alert, &mut wake).map(change), Ok((false, vec![])));
+    assert_eq!(tables.wait_any(until(40).alert(alert)), SERVED);
+}
+
+#[test]
 fn each_clock_ends_its_own_waits() {
     let (mut tables, mut wake) = empty();
     let list = [tables.create_event(false, false).unwrap()];

@@ -84,7 +84,6 @@ fn waits_refuse_bad_arguments() {
     let mut tables = three_objects();
     let good = Wait::new(&[SEM], Owner(7));
     let bad = [
-        Wait { list: &[], ..good },
         Wait { owner: Owner::NOBODY, ..good },
         good.alert(SEM),
         good.alert(LOCK),
@@ -93,8 +92,10 @@ fn waits_refuse_bad_arguments() {
     ];
     for wait in bad {
         refused(&mut tables, Refusal::Invalid, |t, _| t.wait_any(wait));
+        refused(&mut tables, Refusal::Invalid, |t, _| t.wait_any(Wait { list: &[], ..wait }));
         refused(&mut tables, Refusal::Invalid, |t, _| t.wait_all(wait));
     }
+    refused(&mut tables, Refusal::Invalid, |t, _| t.wait_all(Wait { list: &[], ..good }));
     refused(&mut tables, Refusal::Invalid, |t, _| t.wait_all(Wait::new(&[SEM, EVENT, SEM], Owner(7))));
     refused(&mut tables, Refusal::Invalid, |t, _| t.wait_all(Wait::new(&[SEM, EVENT], Owner(7)).alert(EVENT)));
 }
