@@ -153,7 +153,10 @@ fn waiting_any(typical: &Start, full: &Start) -> Vec<Scenario> {
     let room = &start("full, 31 waits", Filling { waits: WAIT_PLACES - 1, ..FULL }.tables());
     let late = FreshWait { timeout: TIME, ..never([127]) };
     let with_alert = FreshWait { alert: 126, ..never(32..=95) };
+    let alert_alone = FreshWait { alert: 126, ..never([]) };
     vec![
+        row(typical, Call::WaitAny(never([])), "no handles, queued", QUEUED, 0, 7),
+        row(alerted, Call::WaitAny(alert_alone), "no handles, the alert serves", DONE, 0, 0),
         row(served, Call::WaitAny(never([40])), "1 handle, served", DONE, 0, 0),
         row(typical, Call::WaitAny(never([40])), "1 handle, queued", QUEUED, 0, 7),
         row(full_served, Call::WaitAny(never([127])), "1 handle, served", DONE, 0, 0),
