@@ -85,6 +85,7 @@ step-unended s c p w g e u l n = step-stays s c p w e n (perform-case wakeByWalk
   where
     same : (v : Wait) → v isIn s .waits → v .ticket ≡ w .ticket → v ≡ w
     same v m i = distinct-tickets (s .waits) (g .distinct) v w m (at-in (s .waits) p w e) i
+
     woken : (d : Change) → (d .changed ≡ []) ⊎ ((d .state .waits ≡ s .waits) × (d .reports ≡ [])) → Unreported (w .ticket) ((wakeByWalk (d .changed) (d .state)) .reports)
     woken d q = ⊎-elim (λ (z : d .changed ≡ []). rw (z, walk-nothing (length (d .state .waits)) 0 (d .state)) tt)
         (λ (z : (d .state .waits ≡ s .waits) × (d .reports ≡ [])). walk-unreported (length (d .state .waits)) (d .changed) 0 (d .state) (w .ticket)

@@ -379,10 +379,11 @@ fn aimed(random: &mut Random, state: &State, cell: usize) -> Option<Call> {
         Some(Place::Object(place)) => place as u32 + 1,
         Some(Place::Wait(place)) => {
             let wait = state.waits[place].as_ref()?;
-            if wait.alert != 0 && random.percent(30) {
-                wait.alert
-            } else {
-                random.pick(&wait.list)
+            match wait.list[..] {
+                [] if wait.alert == 0 => return Some(Call::Cancel { ticket: wait.ticket }),
+                [] => wait.alert,
+                _ if wait.alert != 0 && random.percent(30) => wait.alert,
+                _ => random.pick(&wait.list),
             }
         }
     };
