@@ -156,9 +156,9 @@ newHandle s = lowestEmpty 1 (s .objects)
 
 -- A WAIT'S ARGUMENTS. "EINVAL for a bad list or handle, owner 0 (even without a mutex in the list), an unknown flag
 -- (only flag 1, real-time clock, is known; number house), nonzero pad, an alert that isn't 0 or an event; for all, a
--- repeated handle, the alert counted." "1 to 64 handles in a wait's list (.. refusing an empty list is house)", and 1/13:
--- "From now on a wait for any may have no objects: it can be served by its alert, end by time, or be cancelled. A wait
--- for all over nothing stays EINVAL (house)."
+-- repeated handle, the alert counted." "1 to 64 handles in a wait's list (.. refusing an empty list is house)"; but
+-- (1/13) "From now on a wait for any may have no objects: it can be served by its alert, end by time, or be cancelled.
+-- A wait for all over nothing stays EINVAL (house)."
 abbrev pub listTooShort : Mode → List ℕ → Bool
 listTooShort any hs = false
 listTooShort all hs = eqb (length hs) 0

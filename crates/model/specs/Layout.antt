@@ -86,8 +86,8 @@ validObject (mutex o c a) =
     allOf (ltb o word32 ∷ ltb c word32 ∷ eqb (bit (eqb o 0)) (bit (eqb c 0)) ∷ (not a || eqb o 0) ∷ [])
 validObject (event s m) = true
 
--- "each queued wait has an owner other than 0, .. a list of 1 to 64 occupied handles" (1/13: "Sound tables allow n=0 for
--- any"), "and an alert that is 0 or an event's handle; a wait for all has no handle twice, its alert included"
+-- "each queued wait has an owner other than 0, .. a list of 1 to 64 occupied handles" (1/13: "Sound tables allow n=0
+-- for any"), "and an alert that is 0 or an event's handle; a wait for all has no handle twice, its alert included"
 abbrev pub validWait : List Object → Wait → Bool
 validWait os w = allOf (not (eqb (w .owner) 0) ∷ ltb (w .owner) word32 ∷ ltb (w .clock) 2 ∷ ltb (w .timeout) word64
     ∷ not (listTooShort (w .mode) (w .list)) ∷ not (ltb maxListed (length (w .list))) ∷ allOccupied os (w .list)
