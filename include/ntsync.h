@@ -265,7 +265,7 @@ ntsync_changed ntsync_pulse(uint64_t *tables, size_t cells, uint64_t *wake, size
 
 /* Acquires the first listed object that can be; index is its place in the list, from 0. A handle may stand there twice, and
  * be the alert too. With n 0 it is a sleep: it ends by its alert, with NTSYNC_DONE and index 0 (which is n), by time, or by
- * ntsync_cancel. Without alert and with NTSYNC_NEVER, nothing but ntsync_cancel ends it. */
+ * ntsync_cancel. Without alert and with NTSYNC_NEVER it can only be cancelled. */
 ntsync_waited ntsync_wait_any(uint64_t *tables, size_t cells, const uint32_t *list, size_t n, uint32_t owner,
                               uint32_t alert, uint32_t flags, uint32_t pad, uint64_t timeout, uint64_t time) NTSYNC_WAITS;
 
