@@ -27,7 +27,7 @@ eventAt t h = eqb (named t h .kind) 3
 
 -- for all an empty list is refused (house), for any it is not (1/13)
 unfoldable pub tooFew : ℕ → ℕ → Bool
-tooFew mode n = eqb mode 1 && eqb n 0
+tooFew mode n = not (eqb mode 0) && eqb n 0
 
 -- a list's handles are all occupied; some number stands in it twice
 unfoldable pub occupiedList : List ℕ → List ℕ → Bool
@@ -36,9 +36,13 @@ occupiedList t list = allBelow (λ i. occupiedAt t (getD list i 0)) (length list
 unfoldable pub repeatedList : List ℕ → Bool
 repeatedList list = someBelow (λ k. someBelow (λ j. eqb (getD list j 0) (getD list k 0)) k) (length list)
 
--- a list for a mode: its handles are occupied, and in a wait for all none of them is the alert or stands twice
+-- handles for a mode: they are occupied, and in a wait for all none of them is the alert or stands twice
+unfoldable pub properHandles : List ℕ → ℕ → List ℕ → ℕ → Bool
+properHandles t mode list alert = occupiedList t list && (eqb mode 0 || not (has list alert || repeatedList list))
+
+-- a list for a mode: enough handles, and proper ones
 unfoldable pub properList : List ℕ → ℕ → List ℕ → ℕ → Bool
-properList t mode list alert = occupiedList t list && (eqb mode 0 || not (has list alert || repeatedList list))
+properList t mode list alert = not (tooFew mode (length list)) && properHandles t mode list alert
 
 -- an alert is 0 or an event
 abbrev pub properAlert : List ℕ → ℕ → Bool
@@ -55,10 +59,10 @@ aloneAt t p = allBelow (λ q. not (eqb (ticketAt t q) (ticketAt t p))) p
 -- a queued wait, its header and what it names
 abbrev pub headerTests : List ℕ → ℕ → List Bool
 headerTests t p = ltb (ticketAt t p) (nextTicket t) ∷ aloneAt t p ∷ leb (modeAt t p) 1 ∷ ltb 0 (ownerAt t p) ∷ ltb (ownerAt t p) word32 ∷ leb (clockAt t p) 1
-    ∷ not (tooFew (modeAt t p) (inWait t p 5)) ∷ leb (inWait t p 5) maxListed ∷ []
+    ∷ leb (inWait t p 5) maxListed ∷ []
 
 abbrev pub namesTests : List ℕ → ℕ → List Bool
-namesTests t p = occupiedList t (listOf t p) ∷ unusedZero t p (countAt t p)
+namesTests t p = not (tooFew (modeAt t p) (length (listOf t p))) ∷ occupiedList t (listOf t p) ∷ unusedZero t p (countAt t p)
     ∷ (eqb (alertAt t p) 0 || eventAt t (alertAt t p)) ∷ (eqb (modeAt t p) 0 || not (has (listOf t p) (alertAt t p) || repeatedList (listOf t p))) ∷ []
 
 unfoldable pub validQueued : List ℕ → ℕ → Bool

@@ -18,7 +18,7 @@ use Rattle.model.proofs.Logic.{byBool, clash, not-true, not-false}
 use Rattle.cells.specs.Fold.{foldBelow, allBelow, someBelow, orBelow}
 use Rattle.cells.specs.Objects.{named}
 use Rattle.cells.specs.Waits.{has}
-use Rattle.cells.specs.Validity.{occupiedAt, eventAt, occupiedList, repeatedList, properList, properAlert}
+use Rattle.cells.specs.Validity.{occupiedAt, eventAt, occupiedList, repeatedList, properHandles, properAlert}
 use Rattle.refine.proofs.Fold.{all-at, all-intro, all-first, has-is, repeated-is}
 
 -- numbers or'ed are 0 exactly if each is
@@ -155,25 +155,25 @@ once-fresh alert list b = let f = flagOf (alert ∷ list) in let z : freshAt f 0
     ap (λ (x : Bool). x && allBelow (λ i. freshAt f (suc i)) (length list)) (sym z) ∙ sym (all-first (freshAt f) (length list)) ∙ distinct-is (alert ∷ list) b ∙ ap not (repeated-first alert list)
 
 module _ (t list : List ℕ) (mode alert : ℕ) (z : mode ≡ 0 → ⊥) where
-  once-is : properAlert t alert ≡ true → allBelow (onceAt t list alert) (length list) ≡ properList t mode list alert
-  unfolding properList occupiedList
+  once-is : properAlert t alert ≡ true → allBelow (onceAt t list alert) (length list) ≡ properHandles t mode list alert
+  unfolding properHandles occupiedList
   once-is a = let occ : ℕ → Bool = λ i. occupiedAt t (getD list i 0) in
       rw (ne-eqb mode 0 z) (all-both occ (λ i. freshAt (flagOf (alert ∷ list)) (suc i)) (length list)
       ∙ and-same (allBelow occ (length list)) _ (not (has list alert || repeatedList list)) (λ q. once-fresh alert list (names-flagged t alert list q a)))
 
   -- walked to the end
-  pub once-all : {n : ℕ} → n ≡ length list → allBelow (onceAt t list alert) n ≡ true → properAlert t alert ≡ true → true ≡ properList t mode list alert
+  pub once-all : {n : ℕ} → n ≡ length list → allBelow (onceAt t list alert) n ≡ true → properAlert t alert ≡ true → true ≡ properHandles t mode list alert
   once-all e y a = sym (let q : allBelow (onceAt t list alert) (length list) ≡ true = rw e at y in q) ∙ once-is a
 
   -- or left at the i-th handle
   module _ (i : ℕ) (l : i < length list) where
-    once-out : onceAt t list alert i ≡ false → properAlert t alert ≡ true → false ≡ properList t mode list alert
+    once-out : onceAt t list alert i ≡ false → properAlert t alert ≡ true → false ≡ properHandles t mode list alert
     once-out n a = byBool (allBelow (onceAt t list alert) (length list)) (λ y. clash (all-at (onceAt t list alert) (length list) y i l) n) (λ m. sym m) ∙ once-is a
 
-    pub once-empty : {here : Bool} → here ≡ occupiedAt t (getD list i 0) → not here ≡ true → properAlert t alert ≡ true → false ≡ properList t mode list alert
+    pub once-empty : {here : Bool} → here ≡ occupiedAt t (getD list i 0) → not here ≡ true → properAlert t alert ≡ true → false ≡ properHandles t mode list alert
     once-empty {here} e n = once-out (let q : occupiedAt t (getD list i 0) ≡ false = sym e ∙ not-true here n in rw q)
 
-    pub once-again : {seen : List ℕ} → seen ≡ seenNames alert list i → (getD seen (getD list i 0 % marks) 0 ≡ 0 → ⊥) → properAlert t alert ≡ true → false ≡ properList t mode list alert
+    pub once-again : {seen : List ℕ} → seen ≡ seenNames alert list i → (getD seen (getD list i 0 % marks) 0 ≡ 0 → ⊥) → properAlert t alert ≡ true → false ≡ properHandles t mode list alert
     once-again {seen} e n = once-out (rw (sym e, ne-eqb _ 0 n, and-false (occupiedAt t (getD list i 0))))
 
     pub once-more : {here : Bool} {seen : List ℕ} → allBelow (onceAt t list alert) i ≡ true → here ≡ occupiedAt t (getD list i 0) → not here ≡ false → seen ≡ seenNames alert list i → getD seen (getD list i 0 % marks) 0 ≡ 0 → allBelow (onceAt t list alert) (i + 1) ≡ true

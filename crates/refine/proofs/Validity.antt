@@ -170,14 +170,14 @@ alone-all t c p l z q m e = byBool (ltb q p)
 wait-to : (t : List ℕ) → Words t → Checked t → (p : ℕ) → p < waitPlaces → (inWait t p 0 ≡ 0 → ⊥) → ValidWait t p
 unfolding validPlace validQueued occupiedList unusedZero tooFew ticketAt modeAt ownerAt clockAt alertAt
 wait-to t words c p l z = let (t0, (t1, (t2, (t3, (t4, (t5, (t6, (t7, (t8, (t9, (t10, (t11, r)))))))))))) = passed _ (rw (ne-eqb (inWait t p 0) 0 z) at (c .3 p l)) in
-    let n : inWait t p 5 ≤ maxListed = leb-true _ _ t7 in
+    let n : inWait t p 5 ≤ maxListed = leb-true _ _ t6 in
     let cn : countAt t p ≡ inWait t p 5 = count-cell t p n in
     let ln : length (listOf t p) ≡ countAt t p = list-length t (c .0) p l in
     record {
       owner = (ltb-true _ _ t3, ltb-true _ _ t4);
       below = ltb-true _ _ t0;
       alone = alone-all t c p l z;
-      listed = (λ m. let q : (eqb (inWait t p 1) 1 && eqb (inWait t p 5) 0) ≡ false = not-true _ t6 in let z : inWait t p 5 ≡ 0 → ⊥ = eqb-false _ _ (rw m at q) in omega arith, n);
+      listed = (λ m. let q : (not (eqb (inWait t p 1) 0) && eqb (length (listOf t p)) 0) ≡ false = not-true _ t7 in let z : length (listOf t p) ≡ 0 → ⊥ = eqb-false _ _ (rw m at q) in omega arith, n);
       occupied = λ k b. rw (← (list-at t (c .0) p l k (omega arith))) (occupied-to t (getD (listOf t p) k 0) (all-at (λ i. occupiedAt t (getD (listOf t p) i 0)) (length (listOf t p)) t8 k (omega arith)));
       unused = λ k b u. let q : inWait t p (headerSize + countAt t p + (k - countAt t p)) ≡ 0 = eqb-true _ _ (all-at (λ k. eqb (inWait t p (headerSize + countAt t p + k)) 0) (maxListed - countAt t p) t9 (k - countAt t p) (omega arith)) in
           let i : headerSize + k ≡ headerSize + countAt t p + (k - countAt t p) = omega arith in rw i q;
@@ -208,14 +208,14 @@ unfolding validQueued occupiedList unusedZero tooFew aloneAt ticketAt modeAt own
 wait-from t size p l v =
     let n1 : inWait t p 5 ≤ maxListed = v .listed .1 in
     let cn : countAt t p ≡ inWait t p 5 = count-cell t p n1 in let ln : length (listOf t p) ≡ countAt t p = list-length t size p l in
-    let enough : (eqb (inWait t p 1) 1 && eqb (inWait t p 5) 0) ≡ false = byBool (eqb (inWait t p 1) 1)
-    (λ y. let a : 1 ≤ inWait t p 5 = v .listed .0 (eqb-true _ _ y) in rw (y, ne-eqb (inWait t p 5) 0 (λ z. let y : ⊥ = omega arith in y))) (λ f. rw f) in
     let once : inWait t p 1 ≡ 1 → (has (listOf t p) (inWait t p 6) ≡ false) × (repeatedList (listOf t p) ≡ false) = λ m. (
       has-is (listOf t p) (inWait t p 6) ∙ byBool (member (inWait t p 6) (listOf t p))
           (λ y. let r = member-at (inWait t p 6) (listOf t p) y in let b : r .0 < length (listOf t p) = r .1 in absurd ((v .once m (r .0) (omega arith)) .0 (sym (list-at t size p l (r .0) (omega arith)) ∙ r .2))) (λ f. f),
       repeated-is (listOf t p) ∙ once-repeat (listOf t p) (λ j k a b e. (v .once m k (omega arith)) .1 j a (sym (list-at t size p l j (omega arith)) ∙ e ∙ list-at t size p l k (omega arith))),
     ) in
     let m : inWait t p 1 ≤ 1 = v .mode in
+    let enough : (not (eqb (inWait t p 1) 0) && eqb (length (listOf t p)) 0) ≡ false = byBool (eqb (inWait t p 1) 0) (λ y. rw y)
+    (λ f. let z : inWait t p 1 ≡ 0 → ⊥ = eqb-false _ _ f in let a : 1 ≤ inWait t p 5 = v .listed .0 (omega arith) in rw (f, ne-eqb (length (listOf t p)) 0 (λ z. let y : ⊥ = omega arith in y))) in
     let last : (eqb (inWait t p 1) 0 || not (has (listOf t p) (inWait t p 6) || repeatedList (listOf t p))) ≡ true = byBool (eqb (inWait t p 1) 0) (λ y. rw y)
     (λ f. let z : inWait t p 1 ≡ 0 → ⊥ = eqb-false _ _ f in let o = once (omega arith) in let o0 = o .0 in let o1 = o .1 in rw (f, o0, o1)) in
     pass _ (
@@ -231,9 +231,9 @@ wait-from t size p l v =
               (
                 le-leb _ _ (v .clock),
                 (
-                  rw enough,
+                  le-leb _ _ n1,
                   (
-                    le-leb _ _ n1,
+                    rw enough,
                     (
                       all-intro (λ i. occupiedAt t (getD (listOf t p) i 0)) (length (listOf t p)) (λ k b. rw (list-at t size p l k (omega arith)) (occupied-from t (inWait t p (headerSize + k)) (v .occupied k (omega arith)))),
                       (

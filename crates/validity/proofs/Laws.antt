@@ -14,7 +14,7 @@ use Rattle.cells.specs.Fold.{allBelow}
 use Rattle.cells.specs.Objects.{Fields, fields, fieldsAt, named}
 use Rattle.cells.specs.Waits.{nextTicket, ticketAt, modeAt, ownerAt, clockAt, countAt, alertAt, listOf, has}
 use Rattle.kinds.proofs.Laws.{joinedLeft, all-left, highest, has-32-bits}
-use Rattle.cells.specs.Validity.{validFields, occupiedAt, eventAt, tooFew, occupiedList, repeatedList, properList, properAlert, unusedZero, aloneAt, headerTests, namesTests, validQueued, validFree, validPlace, validCells}
+use Rattle.cells.specs.Validity.{validFields, occupiedAt, eventAt, tooFew, occupiedList, repeatedList, properHandles, properList, properAlert, unusedZero, aloneAt, headerTests, namesTests, validQueued, validFree, validPlace, validCells}
 
 pub all-joined : (xs ys : List Bool) → (allOf xs && allOf ys) ≡ allOf (xs ++ ys)
 unfolding allOf
@@ -22,9 +22,9 @@ all-joined [] ys = refl
 all-joined (a ∷ xs) ys = and-assoc a (allOf xs) (allOf ys) ∙ ap (λ (b : Bool). a && b) (all-joined xs ys)
 
 -- a header, from what was read of it
-pub header-valid : (t : List ℕ) (p : ℕ) {ticket next mode owner clock n : ℕ} {alone few : Bool} → ticket ≡ ticketAt t p → next ≡ nextTicket t → alone ≡ aloneAt t p → mode ≡ modeAt t p → owner ≡ ownerAt t p → clock ≡ clockAt t p → n ≡ inWait t p 5 → few ≡ tooFew mode n
-    → joinedLeft (ltb ticket next) (alone ∷ leb mode 1 ∷ ltb 0 owner ∷ leb owner highest ∷ leb clock 1 ∷ not few ∷ leb n maxListed ∷ []) ≡ allOf (headerTests t p)
-header-valid t p e₁ e₂ e₃ e₄ e₅ e₆ e₇ e₈ = rw (e₈, e₁, e₂, e₃, e₄, e₅, has-32-bits (ownerAt t p), e₆, e₇) (all-left (ltb (ticketAt t p) (nextTicket t)) (aloneAt t p ∷ leb (modeAt t p) 1 ∷ ltb 0 (ownerAt t p) ∷ ltb (ownerAt t p) word32 ∷ leb (clockAt t p) 1 ∷ not (tooFew (modeAt t p) (inWait t p 5)) ∷ leb (inWait t p 5) maxListed ∷ []))
+pub header-valid : (t : List ℕ) (p : ℕ) {ticket next mode owner clock n : ℕ} {alone : Bool} → ticket ≡ ticketAt t p → next ≡ nextTicket t → alone ≡ aloneAt t p → mode ≡ modeAt t p → owner ≡ ownerAt t p → clock ≡ clockAt t p → n ≡ inWait t p 5
+    → joinedLeft (ltb ticket next) (alone ∷ leb mode 1 ∷ ltb 0 owner ∷ leb owner highest ∷ leb clock 1 ∷ leb n maxListed ∷ []) ≡ allOf (headerTests t p)
+header-valid t p e₁ e₂ e₃ e₄ e₅ e₆ e₇ = rw (e₁, e₂, e₃, e₄, e₅, has-32-bits (ownerAt t p), e₆, e₇) (all-left (ltb (ticketAt t p) (nextTicket t)) (aloneAt t p ∷ leb (modeAt t p) 1 ∷ ltb 0 (ownerAt t p) ∷ ltb (ownerAt t p) word32 ∷ leb (clockAt t p) 1 ∷ leb (inWait t p 5) maxListed ∷ []))
 
 pub place-valid : (t : List ℕ) (p : ℕ) {ticket : ℕ} {header names : Bool} → ticket ≡ ticketAt t p → (ticket ≡ 0 → ⊥) → header ≡ allOf (headerTests t p) → names ≡ allOf (namesTests t p) → (header && names) ≡ validPlace t p
 unfolding validPlace validQueued
@@ -77,21 +77,30 @@ unfolding eventAt
 event-is t h x e = rw e
 
 pub proper-any : (t list : List ℕ) (mode alert : ℕ) {r : Bool} → mode ≡ 0 → r ≡ occupiedList t list → r ≡ properList t mode list alert
-unfolding properList
+unfolding properList properHandles tooFew
 proper-any t list mode alert z e = rw (z, and-true (occupiedList t list)) e
 
--- what a wait names, from what was read of it
-last-second : (a b c d : Bool) → (((a && b) && c) && d) ≡ (a && (c && (d && (b && true))))
-last-second true true c d = rw (and-true d)
-last-second true false c d = rw (and-false d, and-false c)
-last-second false b c d = refl
+pub proper-none : (t list : List ℕ) (mode alert : ℕ) → (mode ≡ 0 → ⊥) → length list ≡ 0 → false ≡ properList t mode list alert
+unfolding properList tooFew
+proper-none t list mode alert n z = rw (ne-eqb mode 0 n, z)
 
-any-fails : (a b c : Bool) → false ≡ (a && (b && (false && c)))
-any-fails a b c = rw (and-false b, and-false a)
+pub proper-all : (t list : List ℕ) (mode alert : ℕ) {r : Bool} → (length list ≡ 0 → ⊥) → r ≡ properHandles t mode list alert → r ≡ properList t mode list alert
+unfolding properList tooFew
+proper-all t list mode alert n e = rw (ne-eqb (length list) 0 n, and-false (not (eqb mode 0))) e
+
+-- what a wait names, from what was read of it
+to-last : (e a b c d : Bool) → (((e && (a && b)) && c) && d) ≡ (e && (a && (c && (d && (b && true)))))
+to-last true true true c d = rw (and-true d)
+to-last true true false c d = rw (and-false d, and-false c)
+to-last true false b c d = refl
+to-last false a b c d = refl
+
+any-fails : (e a b c : Bool) → false ≡ (e && (a && (b && (false && c))))
+any-fails e a b c = rw (and-false b, and-false a, and-false e)
 
 pub names-valid : (t : List ℕ) (p : ℕ) {alert mode : ℕ} {list : List ℕ} {proper unused event : Bool} → alert ≡ alertAt t p → mode ≡ modeAt t p → list ≡ listOf t p → unused ≡ unusedZero t p (countAt t p) → event ≡ eventAt t alert
     → (properAlert t alert ≡ true → proper ≡ properList t mode list alert) → joinedLeft proper (unused ∷ (eqb alert 0 || event) ∷ []) ≡ allOf (namesTests t p)
-unfolding properList allOf
+unfolding properList properHandles allOf
 names-valid t p {alert} {mode} {list} {proper} {unused} {event} a m l u e f = rw (e, u, ← a, ← m, ← l) (byBool (properAlert t alert)
-    (λ y. rw (f y) (last-second (occupiedList t list) (eqb mode 0 || not (has list alert || repeatedList list)) (unusedZero t p (countAt t p)) (properAlert t alert)))
-    (λ n. rw (n, and-false (proper && unusedZero t p (countAt t p))) (any-fails (occupiedList t list) (unusedZero t p (countAt t p)) ((eqb mode 0 || not (has list alert || repeatedList list)) && true))))
+    (λ y. rw (f y) (to-last (not (tooFew mode (length list))) (occupiedList t list) (eqb mode 0 || not (has list alert || repeatedList list)) (unusedZero t p (countAt t p)) (properAlert t alert)))
+    (λ n. rw (n, and-false (proper && unusedZero t p (countAt t p))) (any-fails (not (tooFew mode (length list))) (occupiedList t list) (unusedZero t p (countAt t p)) ((eqb mode 0 || not (has list alert || repeatedList list)) && true))))

@@ -8,7 +8,7 @@ ghost use Rattle.model.specs.Sizes.{objectPlaces, waitPlaces};
 ghost use Rattle.model.specs.Layout.{tableLength};
 ghost use Rattle.cells.specs.Fold.{allBelow};
 ghost use Rattle.cells.specs.Objects.{fieldsAt};
-ghost use Rattle.cells.specs.Validity.{validFields, occupiedAt, eventAt, tooFew, occupiedList, properList, properAlert, aloneAt, headerTests, namesTests, validPlace, validCells};
+ghost use Rattle.cells.specs.Validity.{validFields, occupiedAt, eventAt, occupiedList, properHandles, properList, properAlert, aloneAt, headerTests, namesTests, validPlace, validCells};
 ghost use Rattle.kinds.specs.Values.{cellsOf};
 use kinds::Event;
 use kinds::Mutex;
@@ -94,7 +94,7 @@ fn occupied_list(t: &[u64], list: &[u64]) -> bool
 // The list's handles are occupied, and none of them is the alert or stands twice: one walk, with a flag for each number met.
 fn occupied_once(t: &[u64], mode: u64, list: &[u64], alert: u64) -> bool
     requires { ⌜ (length (now t) ≡ tableLength) × (mode ≡ 0 → ⊥) ⌝ }
-    ensures { λ r. ⌜ (properAlert (now (t .entry)) alert ≡ true → r ≡ properList (now (t .entry)) mode (now (list .entry)) alert) ⌝ }
+    ensures { λ r. ⌜ (properAlert (now (t .entry)) alert ≡ true → r ≡ properHandles (now (t .entry)) mode (now (list .entry)) alert) ⌝ }
 {
     let mut seen: [u8; MARKS] = [0; MARKS];
     let first = (alert % (MARKS as u64)) as usize;
@@ -116,7 +116,7 @@ fn occupied_once(t: &[u64], mode: u64, list: &[u64], alert: u64) -> bool
     true
 }
 
-// A list for its mode, where the alert is a proper one.
+// A list for its mode, where the alert is a proper one: for any of no handles too (1/13), for all of one at least (house).
 pub fn proper_list(t: &[u64], mode: u64, list: &[u64], alert: u64) -> bool
     requires { ⌜ length (now t) ≡ tableLength ⌝ }
     ensures { λ r. ⌜ (properAlert (now (t .entry)) alert ≡ true → r ≡ properList (now (t .entry)) mode (now (list .entry)) alert) ⌝ }
@@ -124,14 +124,10 @@ pub fn proper_list(t: &[u64], mode: u64, list: &[u64], alert: u64) -> bool
     if mode == 0 {
         return occupied_list(t, list);
     }
+    if list.len() == 0 {
+        return false;
+    }
     occupied_once(t, mode, list, alert)
-}
-
-// A wait for any may have no objects (1/13); refusing an empty list for all is house.
-pub fn too_few(mode: u64, n: u64) -> bool
-    ensures { λ r. ⌜ r ≡ tooFew mode n ⌝ }
-{
-    (mode == 1) & (n == 0)
 }
 
 // ---- waits
@@ -164,14 +160,12 @@ fn valid_header(t: &[u64], p: usize) -> bool
     let owner = tables::owner_at(t, p);
     let clock = tables::clock_at(t, p);
     let n = tables::listed_at(t, p);
-    let few = too_few(mode, n);
     (ticket < next)
         & alone
         & (mode <= 1)
         & (0 < owner)
         & (owner <= Mutex::MAX_OWNER)
         & (clock <= 1)
-        & !few
         & (n <= (tables::MAX_LISTED as u64))
 }
 

@@ -13,7 +13,7 @@ use Rattle.model.specs.Basics.{anyOf}
 use Rattle.model.specs.Calls.{Lent, timeUp}
 use Rattle.model.proofs.Logic.{byBool, clash, not-true, not-false, not-twice, fault-free}
 use Rattle.cells.specs.Waits.{nextTicket, has}
-use Rattle.cells.specs.Validity.{eventAt, tooFew, occupiedList, repeatedList, properList, properAlert}
+use Rattle.cells.specs.Validity.{eventAt, tooFew, occupiedList, repeatedList, properHandles, properList, properAlert}
 use Rattle.cells.specs.Attempt.{Tried, tryList}
 use Rattle.attempt.proofs.Laws.{missed-same, index-le}
 use Rattle.cells.specs.Calls.{Result, answered, refusedWith, badWait, ticketPlace, queueCells, laterCells, actCells, waitOnCells}
@@ -40,16 +40,17 @@ to-last false a b c = refl
 sixth : (a b c d e f z : Bool) → (a || (b || (c || (d || (e || (f || (true || z))))))) ≡ true
 sixth a b c d e f z = rw (or-true f, or-true e, or-true d, or-true c, or-true b, or-true a)
 
-pub bad-is : (t : List ℕ) (mode : ℕ) (list : List ℕ) (asking flags pad alert : ℕ) {few proper event : Bool} → few ≡ tooFew mode (length list) → event ≡ eventAt t alert → (properAlert t alert ≡ true → proper ≡ properList t mode list alert)
-    → eitherLeft few (ltb maxListed (length list) ∷ not proper ∷ eqb asking 0 ∷ ltb 1 flags ∷ not (eqb pad 0) ∷ not (eqb alert 0 || event) ∷ []) ≡ badWait mode list asking flags pad alert t
-unfolding badWait properList anyOf
-bad-is t mode list asking flags pad alert {few} {proper} f e q =
+pub bad-is : (t : List ℕ) (mode : ℕ) (list : List ℕ) (asking flags pad alert : ℕ) {proper event : Bool} → event ≡ eventAt t alert → (properAlert t alert ≡ true → proper ≡ properList t mode list alert)
+    → eitherLeft (ltb maxListed (length list)) (not proper ∷ eqb asking 0 ∷ ltb 1 flags ∷ not (eqb pad 0) ∷ not (eqb alert 0 || event) ∷ []) ≡ badWait mode list asking flags pad alert t
+unfolding badWait properList properHandles anyOf
+bad-is t mode list asking flags pad alert {proper} e q =
     let D : Bool = has list alert || repeatedList list in let a : Bool = eqb asking 0 in let b : Bool = ltb 1 flags in let c : Bool = not (eqb pad 0) in let l : Bool = ltb maxListed (length list) in
-    rw (f, e) (any-left (tooFew mode (length list)) (l ∷ not proper ∷ a ∷ b ∷ c ∷ not (properAlert t alert) ∷ []) ∙ byBool (properAlert t alert)
-    (λ y. rw (q y, y) (byBool (occupiedList t list)
+    rw e (any-left l (not proper ∷ a ∷ b ∷ c ∷ not (properAlert t alert) ∷ []) ∙ byBool (properAlert t alert)
+    (λ y. rw (q y, y) (byBool (tooFew mode (length list)) (λ f. rw (f, or-true l))
+    (λ f. rw f (byBool (occupiedList t list)
     (λ o. rw (o, unproper (eqb mode 0) D, to-last (not (eqb mode 0) && D) a b c))
-    (λ o. rw o)))
-    (λ n. rw (n, sixth (tooFew mode (length list)) l (not proper) a b c false, sixth (tooFew mode (length list)) l (not (occupiedList t list)) a b c ((not (eqb mode 0) && D) || false))))
+    (λ o. rw o)))))
+    (λ n. rw (n, sixth false l (not proper) a b c false, sixth (tooFew mode (length list)) l (not (occupiedList t list)) a b c ((not (eqb mode 0) && D) || false))))
 
 -- after a failed attempt
 module _ (t : List ℕ) (mode : ℕ) (list : List ℕ) (asking flags alert timeout time : ℕ) (l : Lent) where

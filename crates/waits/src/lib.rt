@@ -42,11 +42,9 @@ fn bad_wait(
     ensures { λ r. ⌜ r ≡ badWait mode (now (list .entry)) asking flags pad alert (now (t .entry)) ⌝ }
 {
     let n = list.len();
-    let few = validity::too_few(mode, n as u64);
     let event = validity::is_event(t, alert);
     let proper = validity::proper_list(t, mode, list, alert);
-    few
-        | (tables::MAX_LISTED < n)
+    (tables::MAX_LISTED < n)
         | !proper
         | (asking == 0)
         | (1 < flags)

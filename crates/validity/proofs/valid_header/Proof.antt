@@ -12,7 +12,6 @@ use Rattle.tables.proofs.next_ticket.Reads as next-ticket-reads
 use Rattle.tables.proofs.owner_at.Reads as owner-at-reads
 use Rattle.tables.proofs.ticket_at.Reads as ticket-at-reads
 use Rattle.validity.proofs.alone.Reads as alone-reads
-use Rattle.validity.proofs.too_few.Reads as too-few-reads
 
 -- src/lib.rt:144:9
 ticket-at-requires : tie.Need-ticket-at-requires
@@ -42,13 +41,9 @@ clock-at-requires c κs = search needs
 listed-at-requires : tie.Need-listed-at-requires
 listed-at-requires c κs = search needs
 
--- src/lib.rt:151:9
-too-few-requires : tie.Need-too-few-requires
-too-few-requires c κs = search needs
-
 -- src/lib.rt:140:1
 returns : tie.Need-returns
-returns c = let a = c .before .before .before .before .before .before .before .before .before .args in header-valid (a .t .now) (a .p) (c .before .before .before .before .before .before .before .ticket-at .ensures) (c .before .before .before .before .before .before .next-ticket .ensures) (c .before .before .before .before .before .alone .ensures) (c .before .before .before .before .mode-at .ensures) (c .before .before .before .owner-at .ensures) (c .before .before .clock-at .ensures) (c .before .listed-at .ensures) (c .too-few .ensures)
+returns c = let a = c .before .before .before .before .before .before .before .before .args in header-valid (a .t .now) (a .p) (c .before .before .before .before .before .before .ticket-at .ensures) (c .before .before .before .before .before .next-ticket .ensures) (c .before .before .before .before .alone .ensures) (c .before .before .before .mode-at .ensures) (c .before .before .owner-at .ensures) (c .before .clock-at .ensures) (c .listed-at .ensures)
 
 pub valid-header-spec : {M : Type 1} → statement M
 valid-header-spec =
@@ -61,5 +56,4 @@ valid-header-spec =
     owner-at-requires
     clock-at-requires
     listed-at-requires
-    too-few-requires
     returns)

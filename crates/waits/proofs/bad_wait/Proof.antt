@@ -7,10 +7,6 @@ use Rattle.waits.proofs.bad_wait.Reads as reads
 use Rattle.waits.proofs.bad_wait.Lts as lts
 use Rattle.validity.proofs.is_event.Reads as is-event-reads
 use Rattle.validity.proofs.proper_list.Reads as proper-list-reads
-use Rattle.validity.proofs.too_few.Reads as too-few-reads
-
-too-few-requires : tie.Need-too-few-requires
-too-few-requires c κs = search needs
 
 is-event-requires : tie.Need-is-event-requires
 is-event-requires c κs = search needs
@@ -19,8 +15,8 @@ proper-list-requires : tie.Need-proper-list-requires
 proper-list-requires c κs = search needs
 
 returns : tie.Need-returns
-returns c = let a = c .before .before .before .before .before .args in bad-is (a .t .now) (a .mode) (a .list .now) (a .asking) (a .flags) (a .pad) (a .alert) (c .before .before .too-few .ensures) (c .before .is-event .ensures) (c .proper-list .ensures)
+returns c = let a = c .before .before .before .before .args in bad-is (a .t .now) (a .mode) (a .list .now) (a .asking) (a .flags) (a .pad) (a .alert) (c .before .is-event .ensures) (c .proper-list .ensures)
 
 pub bad-wait-spec : {M : Type 1} → statement M
 bad-wait-spec =
-    tie.close (tie.spec too-few-requires is-event-requires proper-list-requires returns)
+    tie.close (tie.spec is-event-requires proper-list-requires returns)
