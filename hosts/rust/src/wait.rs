@@ -14,7 +14,6 @@ use crate::numbers::{Clock, Deadline, Handle, Now, Owner};
 ///
 /// A wait for any of no objects is a sleep: its alert, its deadline or [`Tables::cancel`](crate::Tables::cancel) ends it.
 ///
-///
 /// ```
 /// use ntsync::{Clock, Deadline, Now, Outcome, Owner, Refusal, Tables, Ticket, Wait, Waited, WakeList, Woken};
 /// let (mut tables, mut wake) = (Tables::new(), WakeList::new());

@@ -156,8 +156,7 @@ fn list_rows() -> Vec<Row> {
     let length = Some("a list of over 64, or of none for all");
     let unused = Some("an unused list cell not zero");
     let listed = |at: usize| move |value: u64| in_wait(0, LIST_AT + at, value);
-    let empty_in = |place: usize, n: u64| [N, LIST_AT, LIST_AT + 1].map(|cell| (wait_at(place) + cell, n)).to_vec();
-    let empty = |place: usize| move |n: u64| empty_in(place, n);
+    let empty = |place: usize| move |n: u64| [N, LIST_AT, LIST_AT + 1].map(|cell| (wait_at(place) + cell, n)).to_vec();
     let shorter = |n: u64| [in_wait(0, N, n), listed(1)(0)].concat();
     [
         rows(length, full_list, &[65, 71, 128, LARGE, LARGE + 64, u64::MAX]),
