@@ -330,7 +330,7 @@ fn first_ticket(random: &mut Random) -> u64 {
     let few = random.below(20) as u64;
     match random.below(100) {
         0..2 => TICKETS_SPENT - 2 * few,
-        2..4 => TICKETS_SPENT - 32, // a full queue and no ticket left
+        2..4 => TICKETS_SPENT - 32 - few, // the last tickets fill up a full queue again
         4..6 => HALF - few,
         6 => SMALL - few,
         _ => 1,

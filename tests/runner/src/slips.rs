@@ -1,5 +1,5 @@
-//! Each slip of document 01 and of its changes, put into the second model, must be found by the random histories, and its script must be
-//! the shrunk history when it is read back.
+//! Each slip of document 01 and of its changes, put into the second model, must be found by the random histories, and its
+//! script must be the shrunk history when it is read back.
 
 use crate::history::{play_many, Failure};
 use crate::play::Bench;
