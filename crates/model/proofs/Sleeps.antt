@@ -1,4 +1,4 @@
--- What ends a wait for any of no objects (1/13): its alert, its time or a cancel, and nothing else.
+-- What ends a wait for any of no objects (1/13): its attempt is its alert's, and without alert and end only a cancel is left.
 use mathlib.Core.Path.{_≡_, refl, sym, _∙_, subst}
 use mathlib.Core.Bool.{Bool, false, cond}
 use mathlib.Core.List.{List, [], _∷_, _++_}
