@@ -24,16 +24,16 @@
  * What it needs and costs; hosts/costs/check compares each figure with the archive.
  *   Platform: x86-64, System V calling convention, ELF. Links without libc but for memcpy and memset. Uses SSE registers
  *   (xmm), none wider and no x87: an interrupt handler or kernel that calls it must save them.
- *   Memory: tables 22,280 bytes, wake list 768 bytes, snapshot buffer 32,768 bytes, all the host's. The archive has 14,550
+ *   Memory: tables 22,280 bytes, wake list 768 bytes, snapshot buffer 32,768 bytes, all the host's. The archive has 14,033
  *   bytes of code and constants, no data, no bss.
  *   Stack at worst, in bytes, with the return address and the arguments that the caller pushes, without what memcpy and
  *   memset take below their return address; there is no recursion:
  *     ntsync_version 8, ntsync_init 40, ntsync_create_sem 432, ntsync_create_mutex 432, ntsync_create_event 432,
  *     ntsync_close 416, ntsync_read_sem 416, ntsync_read_mutex 416, ntsync_read_event 416, ntsync_post 808,
  *     ntsync_unlock 808, ntsync_kill_owner 808, ntsync_set 792, ntsync_reset 416, ntsync_pulse 808, ntsync_wait_any 1,616,
- *     ntsync_wait_all 1,616, ntsync_expire 448, ntsync_cancel 432, ntsync_snapshot 544.
+ *     ntsync_wait_all 1,616, ntsync_expire 448, ntsync_cancel 432, ntsync_snapshot 464.
  *   Time, in instructions at worst of the scenarios of docs/BENCH.md: the check of all cells 35,077; a call with its check
- *   160,832 (a post that wakes 32 waits for all of 64 objects), the snapshot of full tables 200,603.
+ *   160,832 (a post that wakes 32 waits for all of 64 objects), the snapshot of full tables 155,180.
  *
  * Saving. A host may write the cells to a file, or keep them in memory that outlives it, and bring them back. It must store
  * with them NTSYNC_VERSION, the number of cells, a checksum, and the time of the monotonic clock. Cells of another version,

@@ -1,15 +1,16 @@
--- One text after another, and a number's digits from the last one on.
-use Prim.Native.Nat.{ℕ, zero, suc, _+_, _-_, _*_, _/_, _%_, _^_, _≤_, _<_}
+-- One text after another; how many digits a number has, and each of them from the last one on.
+use Prim.Native.Nat.{ℕ, suc, _+_, _/_, _%_, _^_, _≤_, _<_}
 use mathlib.Core.Path.{_≡_, refl, sym, ap, _∙_}
-use mathlib.Core.Bool.{true, false, cond}
-use mathlib.Core.List.{List, [], _∷_, _++_, append-nil, append-assoc}
+use mathlib.Core.Bool.{cond}
+use mathlib.Core.List.{List, [], _∷_, _++_}
 use native.Mathlib.Omega.{arith}
-use native.Mathlib.Nat.{add-zero, pow-suc, div-lt-iff-lt-mul, mod-eq-of-lt}
+use native.Mathlib.Nat.{add-zero}
 use native.Mathlib.Numerals.{add-one}
-use borrow.Author.Tests.{lt-ltb, le-ltb}
-use lib.ListN.{length, getD, set, take, drop, length-append, length-drop, length-set}
-use lib.Seq.{sets, length-sets, length-take-le, take-suc, take-all, drop-length, drop-cons, drop-set-lt, getD-set-same}
+use lib.Dec.{ltb}
+use lib.ListN.{length, getD, set, take, length-append}
+use lib.Seq.{sets, length-sets, length-take-le, take-suc, take-all, set-comm}
 use Rattle.model.specs.Snapshot.{digitsUpTo}
+use Rattle.model.proofs.Digits.{digits-one, digits-more}
 use Rattle.decimal.specs.Text.{Room, Wrote}
 
 sets-then : (buf x y : List ℕ) (at : ℕ) → sets (sets buf at x) (at + length x) y ≡ sets buf at (x ++ y)
@@ -36,54 +37,31 @@ wrote-more buf text at i {now} l e = let X : List ℕ = take i text in let b : �
 pub wrote-all : (buf text : List ℕ) (at i : ℕ) {now : List ℕ} → i ≡ length text → now ≡ sets buf at (take i text) → Wrote buf at text (at + i) now
 wrote-all buf text at i z e = (e ∙ ap (λ (x : List ℕ). sets buf at x) (take-all i text (omega arith)), ap (λ (j : ℕ). at + j) z)
 
--- DIGITS: those of the rest, then those that are kept from the place after `first` on
-tenth : (k n : ℕ) → n < 10 ^ suc k → n / 10 < 10 ^ k
-tenth k n h = let e = pow-suc 10 k in let l : n < 10 ^ k * 10 = omega arith in div-lt-iff-lt-mul {k = 10} {x = n} {y = 10 ^ k} (let z : 0 < 10 = omega arith in z) .1 l
+-- COUNTING: one digit, or one more than the tenth has
+pub count-one : (n : ℕ) → n < 10 → length (digitsUpTo 19 n) ≡ 1
+count-one n h = ap length (digits-one n h)
 
-pub record Digits (n : ℕ) (kept : List ℕ) (first rest : ℕ) : Type 0 where
-  pub place : first < 20
-  pub size : length kept ≡ 20
-  pub below : rest < 10 ^ suc first
-  pub digits : digitsUpTo 19 n ≡ digitsUpTo first rest ++ drop (suc first) kept
+-- twenty digits are enough
+below : (n : ℕ) → n < 2 ^ 64 → n < 10 ^ 20
+below n h = let a : 2 ^ 64 ≡ 18446744073709551616 = refl in let b : 10 ^ 20 ≡ 100000000000000000000 = refl in omega arith
 
-pub digits-start : (n : ℕ) (kept : List ℕ) → n < 2 ^ 64 → length kept ≡ 20 → Digits n kept 19 n
-digits-start n kept h l = record {
-  place = omega arith;
-  size = l;
-  below = let a : 2 ^ 64 ≡ 18446744073709551616 = refl in let b : 10 ^ 20 ≡ 100000000000000000000 = refl in let z : n < 10 ^ 20 = omega arith in z;
-  digits = sym (ap (λ (d : List ℕ). digitsUpTo 19 n ++ d) (ap (λ (k : ℕ). drop k kept) (sym l) ∙ drop-length kept) ∙ append-nil (digitsUpTo 19 n));
-}
+pub count-more : (n : ℕ) → 10 ≤ n → n < 2 ^ 64 → length (digitsUpTo 19 n) ≡ suc (length (digitsUpTo 19 (n / 10)))
+count-more n l h = let e = length-append (digitsUpTo 19 (n / 10)) ((48 + n % 10) ∷ []) in ap length (digits-more n l (below n h)) ∙ omega arith
 
--- the kept digits with one more before them
-kept-more : (kept : List ℕ) (first d : ℕ) → first < length kept → drop first (set kept first d) ≡ d ∷ drop (suc first) kept
-kept-more kept first d l = drop-cons (set kept first d) first 0 (rw (length-set kept first d) l) ∙ rw (getD-set-same kept first d 0 l, drop-set-lt (suc first) kept first d (omega arith))
+pub count-some : (n : ℕ) → 1 ≤ length (digitsUpTo 19 n)
+unfolding digitsUpTo
+count-some n = let front = cond (ltb n 10) [] (digitsUpTo 18 (n / 10)) in let e = length-append front ((48 + n % 10) ∷ []) in omega arith
 
-module _ (n : ℕ) (kept : List ℕ) (rest : ℕ) where
-  pub digits-room : (first : ℕ) → Digits n kept first rest → 10 ≤ rest → 0 < first
-  digits-room zero g l = let z : 10 ^ 1 ≡ 10 = refl in let b = g .below in omega arith
-  digits-room (suc f) g l = omega arith
+-- WRITING: a byte after a text may be stored before it
+sets-past : (x buf : List ℕ) (at j b : ℕ) → at + length x ≤ j → set (sets buf at x) j b ≡ sets (set buf j b) at x
+sets-past [] buf at j b h = refl
+sets-past (a ∷ x) buf at j b h = sets-past x (set buf at a) (suc at) j b (omega arith) ∙ ap (λ (s : List ℕ). sets s (suc at) x) (set-comm buf at j a b (λ e. omega arith))
 
-  more : (f : ℕ) → Digits n kept (suc f) rest → 10 ≤ rest → Digits n (set kept (suc f) (48 + rest % 10)) f (rest / 10)
-  unfolding digitsUpTo
-  more f g l = let d : ℕ = 48 + rest % 10 in let p = g .place in let s = g .size in let q : suc f < length kept = omega arith in record {
-    place = omega arith;
-    size = length-set kept (suc f) d ∙ s;
-    below = tenth (suc f) rest (g .below);
-    digits = g .digits ∙ rw (le-ltb rest 10 l) (append-assoc (digitsUpTo f (rest / 10)) (d ∷ []) (drop (suc (suc f)) kept) ∙ ap (λ (x : List ℕ). digitsUpTo f (rest / 10) ++ x) (sym (kept-more kept (suc f) d q)));
-  }
+-- the last digit stored at its place, or the only one: those of the tenth are left to write, or none
+module _ (buf : List ℕ) (at place n : ℕ) (p : place + 1 ≡ at + length (digitsUpTo 19 n)) where
+  pub digit-more : 10 ≤ n → n < 2 ^ 64 → sets (set buf place (48 + n % 10)) at (digitsUpTo 19 (n / 10)) ≡ sets buf at (digitsUpTo 19 n)
+  digit-more l h = let x : List ℕ = digitsUpTo 19 (n / 10) in let d : ℕ = 48 + n % 10 in let c = count-more n l h in let e : place ≡ at + length x = omega arith in
+      rw (e, digits-more n l (below n h)) (sym (sets-past x buf at (at + length x) d (omega arith)) ∙ sets-then buf x (d ∷ []) at)
 
-  pub digits-more : (first : ℕ) → Digits n kept first rest → 10 ≤ rest → Digits n (set kept first (48 + rest % 10)) (first - 1) (rest / 10)
-  digits-more zero g l = absurd (let z : 0 < 0 = digits-room 0 g l in let w : ⊥ = omega arith in w)
-  digits-more (suc f) g l = let e : suc f - 1 ≡ f = omega arith in rw e (more f g l)
-
-  one : (first : ℕ) → rest < 10 → digitsUpTo first rest ≡ (48 + rest) ∷ []
-  unfolding digitsUpTo
-  one zero h = rw (mod-eq-of-lt h)
-  one (suc f) h = rw (lt-ltb rest 10 h, mod-eq-of-lt h)
-
-  all : (first : ℕ) → Digits n kept first rest → rest < 10 → drop first (set kept first (48 + rest)) ≡ digitsUpTo 19 n
-  all first g h = let p = g .place in let s = g .size in kept-more kept first (48 + rest) (omega arith) ∙ sym (g .digits ∙ ap (λ (x : List ℕ). x ++ drop (suc first) kept) (one first h))
-
-  pub digits-all : (first : ℕ) → Digits n kept first rest → rest < 10 → take (20 - first) (drop first (set kept first (48 + rest))) ≡ digitsUpTo 19 n
-  digits-all first g h = let K : List ℕ = set kept first (48 + rest) in let s = g .size in let e : length (drop first K) ≡ length K - first = length-drop first K in let l = length-set kept first (48 + rest) in
-      take-all (20 - first) (drop first K) (omega arith) ∙ all first g h
+  pub digit-one : n < 10 → set buf place (48 + n) ≡ sets buf at (digitsUpTo 19 n)
+  digit-one h = let c = count-one n h in let e : place ≡ at = omega arith in rw (e, digits-one n h)

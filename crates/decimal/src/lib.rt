@@ -1,5 +1,7 @@
 // Text and decimal numbers written into a lent byte slice at a position; each answers the position after what it wrote.
+ghost use mathlib.Core.Path.{_≡_};
 ghost use mathlib.Core.List.{_++_, _∷_, []};
+ghost use lib.ListN.{length};
 ghost use Rattle.model.specs.Snapshot.{digitsUpTo};
 ghost use Rattle.decimal.specs.Text.{Room, Wrote};
 
@@ -15,21 +17,34 @@ pub fn put_text(buf: &mut [u8], at: usize, text: &[u8]) -> usize
     at + i
 }
 
-// No leading zeros. The digits are made from the last one on, so they are kept until all are known.
+// How many digits n has.
+fn digit_count(n: u64) -> usize
+    ensures { λ r. ⌜ r ≡ length (digitsUpTo 19 n) ⌝ }
+{
+    let mut count: usize = 1;
+    let mut front = n;
+    while 10 <= front {
+        front = front / 10;
+        count += 1;
+    }
+    count
+}
+
+// The digits of n with no leading zeros, from the last one on, each straight to its place.
 pub fn put_number(buf: &mut [u8], at: usize, n: u64) -> usize
     requires { ⌜ Room (now buf) at (digitsUpTo 19 n) ⌝ }
     ensures { λ r. ⌜ Wrote (now (buf .entry)) at (digitsUpTo 19 n) r (now (buf .exit)) ⌝ }
 {
-    let mut digits: [u8; 20] = [0; 20];
-    let mut first: usize = 19;
+    let end = at + digit_count(n);
+    let mut place = end - 1;
     let mut rest = n;
     while 10 <= rest {
-        digits[first] = 48 + (rest % 10) as u8;
+        buf[place] = 48 + (rest % 10) as u8;
         rest = rest / 10;
-        first -= 1;
+        place -= 1;
     }
-    digits[first] = 48 + rest as u8;
-    put_text(buf, at, &digits[first..])
+    buf[place] = 48 + rest as u8;
+    end
 }
 
 // A key, a number and a line feed.

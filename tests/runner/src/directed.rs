@@ -1,7 +1,8 @@
 //! Directed cases: the bench readings of document 01, the rules of each call, the limits, the order of refusals.
-//! Every call is compared with the second model too. What is lent is in `lent.rs`.
+//! Every call is compared with the second model too. What is lent is in `lent.rs`, the picture's numbers in `digits.rs`.
 
 use crate::calls::{all, any, at_time, event, expire, kill, mutex, post, pulse, sem, set, unlock, with_wake};
+use crate::digits;
 use crate::lent;
 use crate::library;
 use crate::play::Bench;
@@ -18,7 +19,7 @@ pub struct Case {
 pub type Done = Result<(), String>;
 type Test = (&'static str, fn(&mut Case) -> Done);
 
-const TESTS: [Test; 31] = [
+const TESTS: [Test; 34] = [
     ("P1, P2 and the picture", p1_p2),
     ("P3, P4", p3_p4),
     ("P5, P6", p5_p6),
@@ -38,6 +39,9 @@ const TESTS: [Test; 31] = [
     ("32 records", lent::records_32),
     ("buffers of 0 to 32,832 bytes", lent::buffers),
     ("the longest picture", lent::longest_picture),
+    ("numbers of 64 bits at each border", digits::borders_of_64_bits),
+    ("numbers of 32 bits at each border", digits::borders_of_32_bits),
+    ("random numbers of every length", digits::random_numbers),
     ("lengths beyond 32 bits", lent::far_lengths),
     ("the header's numbers", lent::header),
     ("making", lent::making),

@@ -8,6 +8,7 @@ mod calls;
 mod coverage;
 mod crash;
 mod damaged;
+mod digits;
 mod directed;
 mod fenced;
 mod generate;
