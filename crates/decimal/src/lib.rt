@@ -39,11 +39,11 @@ pub fn put_number(buf: &mut [u8], at: usize, n: u64) -> usize
     let mut place = end - 1;
     let mut rest = n;
     while 10 <= rest {
-        buf[place] = 48 + (rest % 10) as u8;
+        buf[place] = b'0' + (rest % 10) as u8;
         rest = rest / 10;
         place -= 1;
     }
-    buf[place] = 48 + rest as u8;
+    buf[place] = b'0' + rest as u8;
     end
 }
 
