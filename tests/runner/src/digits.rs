@@ -4,7 +4,7 @@
 use crate::calls::{any, mutex, sem};
 use crate::directed::{Case, Done, MAX};
 use crate::random::Random;
-use second_model::{Call, NEVER, PICTURE_BYTES, WAITS};
+use second_model::{NEVER, WAITS};
 
 /// 0, every power of ten with one below and one above, and the same about the widths' ends.
 fn borders() -> Vec<u64> {
@@ -17,28 +17,20 @@ fn borders() -> Vec<u64> {
     borders
 }
 
-fn shows(case: &mut Case, due: &str) -> Done {
-    let picture = case.step(&Call::Picture { bytes: PICTURE_BYTES })?;
-    if picture.text == due.as_bytes() {
-        return Ok(());
-    }
-    Err(format!("picture {}, due {due}", String::from_utf8_lossy(&picture.text)))
-}
-
 /// As a timeout, as the next ticket, as a ticket. 0 can be none of them.
 pub fn borders_of_64_bits(case: &mut Case) -> Done {
     for n in borders().into_iter().filter(|&n| n > 0) {
         case.bench.make();
         case.queues(any(1, 0, n, &[]), 1)?;
-        shows(case, &format!("next=2\nobjects=0\nwaits=1\n{}", sleep(1, 1, n)))?;
+        case.shows(&format!("next=2\nobjects=0\nwaits=1\n{}", sleep(1, 1, n)))?;
         case.bench.make();
         case.bench.write_next(n);
-        shows(case, &format!("next={n}\nobjects=0\nwaits=0\n"))?;
+        case.shows(&format!("next={n}\nobjects=0\nwaits=0\n"))?;
         if n == u64::MAX {
             continue;
         }
         case.queues(any(1, 0, NEVER, &[]), n)?;
-        shows(case, &format!("next={}\nobjects=0\nwaits=1\n{}", n + 1, sleep(n, 1, NEVER)))?;
+        case.shows(&format!("next={}\nobjects=0\nwaits=1\n{}", n + 1, sleep(n, 1, NEVER)))?;
     }
     Ok(())
 }
@@ -49,7 +41,7 @@ pub fn borders_of_32_bits(case: &mut Case) -> Done {
         case.bench.make();
         case.create(&[sem(n, MAX)])?;
         let first = format!("handle=1\nkind=sem\ncount={n}\nmax={MAX}\n");
-        shows(case, &format!("next=1\nobjects=1\n{first}waits=0\n"))?;
+        case.shows(&format!("next=1\nobjects=1\n{first}waits=0\n"))?;
         if n == 0 {
             continue;
         }
@@ -58,7 +50,7 @@ pub fn borders_of_32_bits(case: &mut Case) -> Done {
         case.queues(any(n, 0, NEVER, &[]), 1)?;
         let second = format!("handle=2\nkind=sem\ncount=0\nmax={n}\n");
         let third = format!("handle=3\nkind=mutex\nowner={n}\ncount={n}\nabandoned=0\n");
-        shows(case, &format!("next=2\nobjects=3\n{first}{second}{third}waits=1\n{}", sleep(1, n, NEVER)))?;
+        case.shows(&format!("next=2\nobjects=3\n{first}{second}{third}waits=1\n{}", sleep(1, n, NEVER)))?;
     }
     Ok(())
 }
@@ -74,7 +66,7 @@ pub fn random_numbers(case: &mut Case) -> Done {
             case.queues(any(1, 0, timeout, &[]), ticket)?;
             due += &sleep(ticket, 1, timeout);
         }
-        shows(case, &due)?;
+        case.shows(&due)?;
     }
     Ok(())
 }

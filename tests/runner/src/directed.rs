@@ -108,6 +108,15 @@ impl Case {
         self.hears(call, 0, [previous, reports.len() as u64], reports)
     }
 
+    /// The picture is this text.
+    pub fn shows(&mut self, due: &str) -> Done {
+        let picture = self.step(&Call::Picture { bytes: PICTURE_BYTES })?;
+        if picture.text == due.as_bytes() {
+            return Ok(());
+        }
+        Err(format!("picture {}, due {due}", String::from_utf8_lossy(&picture.text)))
+    }
+
     pub fn fill_queue(&mut self, call: &Call) -> Done {
         self.fill_from(1, call)
     }
@@ -126,10 +135,7 @@ const PICTURE: &str =
 pub fn p1_p2(case: &mut Case) -> Done {
     case.create(&[sem(1, 2), event(0, 1)])?;
     case.queues(all(7, 0, NEVER, &[1, 2]), 1)?;
-    let picture = case.step(&Call::Picture { bytes: PICTURE_BYTES })?;
-    if picture.text != PICTURE.as_bytes() {
-        return Err(format!("picture {}", String::from_utf8_lossy(&picture.text)));
-    }
+    case.shows(PICTURE)?;
     case.wakes(set(2), 0, &[(1, 0, 0)])?;
     case.reads(Call::ReadSem { handle: 1 }, 0, 2)?;
     case.reads(Call::ReadEvent { handle: 2 }, 1, 1)
@@ -288,10 +294,7 @@ const SLEEPS: &str = "next=2\nobjects=1\nhandle=1\nkind=event\nsignaled=0\nmanua
 fn empty_lists(case: &mut Case) -> Done {
     case.create(&[event(0, 0)])?;
     case.queues(any(7, 1, 50, &[]), 1)?;
-    let picture = case.step(&Call::Picture { bytes: PICTURE_BYTES })?;
-    if picture.text != SLEEPS.as_bytes() {
-        return Err(format!("picture {}", String::from_utf8_lossy(&picture.text)));
-    }
+    case.shows(SLEEPS)?;
     case.answers(Call::Close { handle: 1 }, 10)?;
     case.wakes(set(1), 0, &[(1, 0, 0)])?;
     case.reads(Call::ReadEvent { handle: 1 }, 0, 0)?;
