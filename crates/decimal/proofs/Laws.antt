@@ -52,7 +52,7 @@ pub count-some : (n : ℕ) → 1 ≤ length (digitsUpTo 19 n)
 unfolding digitsUpTo
 count-some n = let front = cond (ltb n 10) [] (digitsUpTo 18 (n / 10)) in let e = length-append front ((48 + n % 10) ∷ []) in omega arith
 
--- WRITING: a byte after a text may be stored before it
+-- WRITING: a byte behind a text may be stored before the text is
 sets-past : (x buf : List ℕ) (at j b : ℕ) → at + length x ≤ j → set (sets buf at x) j b ≡ sets (set buf j b) at x
 sets-past [] buf at j b h = refl
 sets-past (a ∷ x) buf at j b h = sets-past x (set buf at a) (suc at) j b (omega arith) ∙ ap (λ (s : List ℕ). sets s (suc at) x) (set-comm buf at j a b (λ e. omega arith))
