@@ -15,36 +15,41 @@
  * independent. Nothing else has to be checked: every content, length, handle, flag and time gets a stated answer. No result
  * may be dropped: a dropped record or ticket is a task that never runs again.
  *
- * Answers. NTSYNC_EINVAL, EPERM, EOVERFLOW, NO_ROOM, TICKETS_SPENT, CORRUPT, BUSY and LIST_SHORT are refusals: the call
- * altered nothing, and every number returned with the answer is 0. Every call but ntsync_version and ntsync_init reads all
- * cells first and answers NTSYNC_CORRUPT if the tables are not NTSYNC_CELLS long or break a rule of docs/LAYOUT.md; then
- * NTSYNC_LIST_SHORT if the wake list or buffer is too short; then what its comment says, in that order. After these two, a
- * handle that is 0, unknown, closed or of another kind of object is NTSYNC_EINVAL in every call; an alert of 0 is no handle.
+ * Answers. NTSYNC_EINVAL, EPERM, EOVERFLOW, NO_ROOM, TICKETS_SPENT, CORRUPT, BUSY, LIST_SHORT and NOT_A_SNAPSHOT are
+ * refusals: the call altered nothing, and every number returned with the answer is 0, but for NOT_A_SNAPSHOT's offset. Every
+ * call but ntsync_version, ntsync_init and ntsync_restore reads all cells first and answers NTSYNC_CORRUPT if the tables are
+ * not NTSYNC_CELLS long or break a rule of docs/LAYOUT.md; then NTSYNC_LIST_SHORT if the wake list or buffer is too short;
+ * then what its comment says, in that order. After these two, a handle that is 0, unknown, closed or of another kind of
+ * object is NTSYNC_EINVAL in every call; an alert of 0 is no handle.
  *
  * What it needs and costs; hosts/costs/check compares each figure with the archive.
  *   Platform: x86-64, System V calling convention, ELF. Links without libc but for memcpy and memset. Uses SSE registers
  *   (xmm), none wider and no x87: an interrupt handler or kernel that calls it must save them.
- *   Memory: tables 22,280 bytes, wake list 768 bytes, snapshot buffer 32,768 bytes, all the host's. The archive has 14,033
+ *   Memory: tables 22,280 bytes, wake list 768 bytes, snapshot buffer 32,768 bytes, all the host's. The archive has 19,043
  *   bytes of code and constants, no data, no bss.
  *   Stack at worst, in bytes, with the return address and the arguments that the caller pushes, without what memcpy and
  *   memset take below their return address; there is no recursion:
  *     ntsync_version 8, ntsync_init 40, ntsync_create_sem 432, ntsync_create_mutex 432, ntsync_create_event 432,
  *     ntsync_close 416, ntsync_read_sem 416, ntsync_read_mutex 416, ntsync_read_event 416, ntsync_post 808,
  *     ntsync_unlock 808, ntsync_kill_owner 808, ntsync_set 792, ntsync_reset 416, ntsync_pulse 808, ntsync_wait_any 1,616,
- *     ntsync_wait_all 1,616, ntsync_expire 448, ntsync_cancel 432, ntsync_snapshot 464.
+ *     ntsync_wait_all 1,616, ntsync_expire 448, ntsync_cancel 432, ntsync_snapshot 480, ntsync_restore 23,856 (it reads the
+ *     text into cells of its own, and alters the tables only when all of it is accepted).
  *   Time, in instructions at worst of the scenarios of docs/BENCH.md: the check of all cells 35,077; a call with its check
- *   160,832 (a post that wakes 32 waits for all of 64 objects), the snapshot of full tables 155,180.
+ *   160,832 (a post that wakes 32 waits for all of 64 objects), the snapshot of full tables 185,942, its restoring 525,943.
  *
- * Saving. A host may write the cells to a file, or keep them in memory that outlives it, and bring them back. It must store
- * with them NTSYNC_VERSION, the number of cells, a checksum, and the time of the monotonic clock. Cells of another version,
- * number or byte order must not be used. The checksum is needed because NTSYNC_CORRUPT reports cells that break a rule, not
- * valid cells that differ from the saved ones. Records of a wake list are not in the cells: hand them to their tasks before
- * saving. After bringing the cells back the host must
+ * Saving. What must outlive a power cut is saved as a snapshot, which ntsync_restore reads back; docs/howto/saving.md has the
+ * program. The sum in its last line shows every cut and every single changed byte, but not two exchanged digits: against more
+ * than that, store a stronger checksum beside it. Store with it which task has which owner number or ticket, and the time of
+ * the monotonic clock. Records of a wake list are not in the tables: hand them to their tasks before saving. Where the text
+ * is refused, nothing that relies on the old state may start. After restoring the host must
  *   - give every queued wait a task, or end it by ntsync_cancel: a wait without a task still acquires objects when it is
- *     served, and nobody would release them. The host stores which task has which ticket; a snapshot lists the tickets;
+ *     served, and nobody would release them. The snapshot lists each wait's ticket and owner;
  *   - if the monotonic clock began anew, go on from the stored time: add it to the clock in every later call. Else timeouts
  *     of the old clock would come too late;
- *   - for every owner that is gone, do what ntsync_kill_owner says of an owner that died. */
+ *   - for every owner that is gone, do what ntsync_kill_owner says of an owner that died.
+ * The cells may be saved too, or kept in memory that outlives the host. Then store NTSYNC_VERSION, the number of cells and a
+ * checksum as well: cells of another version, number or byte order must not be used, and NTSYNC_CORRUPT reports cells that
+ * break a rule, not valid cells that differ from the saved ones. */
 #ifndef NTSYNC_H
 #define NTSYNC_H
 
@@ -57,7 +62,7 @@
 
 /* Rises with every change of a signature, an argument's meaning, a size, an answer or the layout of the tables. A host
  * compares it with ntsync_version() at its start, and with the version that it stored with saved tables. */
-#define NTSYNC_VERSION 2
+#define NTSYNC_VERSION 3
 
 /* ---- sizes */
 
@@ -77,19 +82,20 @@
 
 /* ---- answers: the library's own numbers, not those of errno.h */
 
-#define NTSYNC_DONE 0          /* the call took effect; the wait was served */
-#define NTSYNC_EINVAL 1        /* bad argument */
-#define NTSYNC_EPERM 2         /* that owner does not hold the mutex */
-#define NTSYNC_EOVERFLOW 3     /* the post would exceed the semaphore's maximum */
-#define NTSYNC_EOWNERDEAD 4    /* an abandoned mutex was acquired, or read; no refusal */
-#define NTSYNC_ETIMEDOUT 5     /* the wait's time was up; no object was altered */
-#define NTSYNC_EINTR 6         /* the queued wait was cancelled */
-#define NTSYNC_NO_ROOM 7       /* no empty object place, or no empty wait place */
-#define NTSYNC_TICKETS_SPENT 8 /* all 2^64-2 tickets were given */
-#define NTSYNC_CORRUPT 9       /* the tables' length, or a rule of docs/LAYOUT.md, is broken, until they are restored or made */
-#define NTSYNC_BUSY 10         /* a queued wait names the object */
-#define NTSYNC_QUEUED 11       /* the wait has a ticket; it stays queued until a call wakes, expires or cancels it */
-#define NTSYNC_LIST_SHORT 12   /* the wake list or the snapshot's buffer is too short */
+#define NTSYNC_DONE 0            /* the call took effect; the wait was served */
+#define NTSYNC_EINVAL 1          /* bad argument */
+#define NTSYNC_EPERM 2           /* that owner does not hold the mutex */
+#define NTSYNC_EOVERFLOW 3       /* the post would exceed the semaphore's maximum */
+#define NTSYNC_EOWNERDEAD 4      /* an abandoned mutex was acquired, or read; no refusal */
+#define NTSYNC_ETIMEDOUT 5       /* the wait's time was up; no object was altered */
+#define NTSYNC_EINTR 6           /* the queued wait was cancelled */
+#define NTSYNC_NO_ROOM 7         /* no empty object place, or no empty wait place */
+#define NTSYNC_TICKETS_SPENT 8   /* all 2^64-2 tickets were given */
+#define NTSYNC_CORRUPT 9         /* the tables have another length or break a rule of docs/LAYOUT.md, until restored or made */
+#define NTSYNC_BUSY 10           /* a queued wait names the object */
+#define NTSYNC_QUEUED 11         /* the wait has a ticket; it stays queued until a call wakes, expires or cancels it */
+#define NTSYNC_LIST_SHORT 12     /* the wake list or the snapshot's buffer is too short */
+#define NTSYNC_NOT_A_SNAPSHOT 13 /* the text is none that ntsync_snapshot writes; see ntsync_restore */
 
 /* ---- for the compiler's warnings, empty where it does not know the attribute: a dropped result, a null pointer, a length
  * that the array does not have (`sizeof` in place of a number of cells) */
@@ -135,8 +141,9 @@
     NTSYNC_WARN_SHORT(list, uint32_t, n, "the list has fewer handles")
 #define NTSYNC_CHECK_BYTES NTSYNC_WARN_IF(bytes < NTSYNC_SNAPSHOT_BYTES, "bytes must be NTSYNC_SNAPSHOT_BYTES at least") \
     NTSYNC_WARN_SHORT(buffer, uint8_t, bytes, "the buffer has fewer bytes")
+#define NTSYNC_CHECK_TEXT NTSYNC_WARN_SHORT(text, uint8_t, bytes, "the text has fewer bytes")
 
-/* The tables are arguments 1 and 2 of every call; the wake list, the list of handles or the buffer are 3 and 4. */
+/* The tables are arguments 1 and 2 of every call; the wake list, the list of handles, the buffer or the text are 3 and 4. */
 #define NTSYNC_MAKES_TABLES NTSYNC_USE_RESULT NTSYNC_NOT_NULL NTSYNC_ACCESS(write_only, 1, 2) NTSYNC_CHECK_CELLS
 #define NTSYNC_READS_TABLES NTSYNC_USE_RESULT NTSYNC_NOT_NULL NTSYNC_ACCESS(read_only, 1, 2) NTSYNC_CHECK_CELLS
 #define NTSYNC_ALTERS_TABLES NTSYNC_USE_RESULT NTSYNC_NOT_NULL NTSYNC_ACCESS(read_write, 1, 2) NTSYNC_CHECK_CELLS
@@ -145,6 +152,7 @@
 #define NTSYNC_WAITS_LIST NTSYNC_USE_RESULT NTSYNC_NOT_NULL_TABLES NTSYNC_ACCESS(read_write, 1, 2) NTSYNC_CHECK_CELLS \
     NTSYNC_ACCESS(read_only, 3, 4) NTSYNC_CHECK_LIST
 #define NTSYNC_WRITES_BUFFER NTSYNC_READS_TABLES NTSYNC_ACCESS(write_only, 3, 4) NTSYNC_CHECK_BYTES
+#define NTSYNC_READS_TEXT NTSYNC_MAKES_TABLES NTSYNC_ACCESS(read_only, 3, 4) NTSYNC_CHECK_TEXT
 
 #ifdef __clang__ /* which else warns about diagnose_if under -Wpedantic, because gcc does not know it */
 #pragma clang diagnostic push
@@ -167,6 +175,8 @@ typedef struct { uint32_t answer, previous, woken; } ntsync_changed;
 typedef struct { uint32_t answer, index; uint64_t ticket; } ntsync_waited;
 /* length: bytes at the front of the buffer. */
 typedef struct { uint32_t answer, length; } ntsync_written;
+/* offset: the first bad line of a text that is no snapshot. */
+typedef struct { uint32_t answer; uint64_t offset; } ntsync_restored;
 
 /* ---- version and making */
 
@@ -286,10 +296,25 @@ uint32_t ntsync_cancel(uint64_t *tables, size_t cells, uint64_t ticket) NTSYNC_A
 
 /* ---- snapshot */
 
-/* Writes the tables as text (docs/LAYOUT.md, "A snapshot") to the front of buffer: length bytes, no null byte behind
- * them, and the rest is not altered. The tables are only read. NTSYNC_LIST_SHORT if bytes is under
- * NTSYNC_SNAPSHOT_BYTES. */
+/* Writes the tables as text (docs/LAYOUT.md, "A snapshot") to the front of buffer: length bytes, at most 28,437, no null byte
+ * behind them, and the rest is not altered. The last line is the sum of all bytes before it. The tables are only read.
+ * NTSYNC_LIST_SHORT if bytes is under NTSYNC_SNAPSHOT_BYTES. */
 ntsync_written ntsync_snapshot(const uint64_t *tables, size_t cells, uint8_t *buffer, size_t bytes) NTSYNC_WRITES_BUFFER;
+
+/* Makes the tables that a snapshot shows: the objects under their handles, the queued waits under their tickets, in the lowest
+ * wait places by ticket, and the next ticket. A snapshot of them is the same text again. What the cells held before does not
+ * matter; of waits queued there the host must take care as at ntsync_init, and tickets given since the snapshot are given
+ * again. The text is accepted if ntsync_snapshot can have written it from valid tables in which no queued wait could be
+ * served, as tables are that ntsync_init or ntsync_restore made and only calls altered. In this order:
+ *   NTSYNC_CORRUPT         cells is not NTSYNC_CELLS;
+ *   NTSYNC_DONE            restored;
+ *   NTSYNC_NOT_A_SNAPSHOT  any other text, of any length, an empty one too. offset is where its first line begins that has not
+ *                          the key due there, then a number (no sign, no leading zero) or word in that key's range, then a
+ *                          line feed; it is the text's length if the text ends where a line is due. Else the lines are as due
+ *                          and offset is 0: bytes follow the sum line, the sum is another, handles or tickets do not rise, the
+ *                          state breaks a rule of docs/LAYOUT.md, or a queued wait could be served. A first line that is bad
+ *                          has offset 0 as well. */
+ntsync_restored ntsync_restore(uint64_t *tables, size_t cells, const uint8_t *text, size_t bytes) NTSYNC_READS_TEXT;
 
 /* ---- the waits for hosts whose empty list is a null pointer: with n 0 the list is never passed on. A wait for all with n 0
  * is refused here too. */

@@ -88,7 +88,8 @@ static inline NTSYNC_USE_RESULT NTSYNC_NOT_NULL ntsync_record ntsync_record_at(c
 static inline NTSYNC_USE_RESULT const char *ntsync_answer_name(uint32_t answer)
 {
     static const char *const names[] = {"DONE",    "EINVAL",        "EPERM",   "EOVERFLOW", "EOWNERDEAD", "ETIMEDOUT", "EINTR",
-                                        "NO_ROOM", "TICKETS_SPENT", "CORRUPT", "BUSY",      "QUEUED",     "LIST_SHORT"};
+                                        "NO_ROOM", "TICKETS_SPENT", "CORRUPT", "BUSY",      "QUEUED",     "LIST_SHORT",
+                                        "NOT_A_SNAPSHOT"};
     return answer < sizeof names / sizeof names[0] ? names[answer] : "UNKNOWN";
 }
 
@@ -132,7 +133,7 @@ static inline NTSYNC_USE_RESULT int ntsync_refused(uint32_t answer)
  *   ETIMEDOUT      TIMEOUT: only a wait or a record has it
  *   EINTR          CANCELLED: NT does not end a wait of a living thread from outside but by alert or APC
  *   TICKETS_SPENT  INSUFFICIENT_RESOURCES
- *   CORRUPT        INTERNAL_ERROR; so has a number that is no answer
+ *   CORRUPT        INTERNAL_ERROR; so has a number that is no answer, and NOT_A_SNAPSHOT, which no module's call comes to
  *   BUSY           RESOURCE_IN_USE: NT closes a handle that is waited for
  *   QUEUED         PENDING: the wait is not over, and no module may see this */
 static inline NTSYNC_USE_RESULT uint32_t ntsync_handle_status(uint32_t answer)
@@ -151,6 +152,7 @@ static inline NTSYNC_USE_RESULT uint32_t ntsync_handle_status(uint32_t answer)
     case NTSYNC_QUEUED: return NTSYNC_STATUS_PENDING;
     case NTSYNC_LIST_SHORT: return NTSYNC_STATUS_BUFFER_TOO_SMALL;
     case NTSYNC_CORRUPT:
+    case NTSYNC_NOT_A_SNAPSHOT:
     default: return NTSYNC_STATUS_INTERNAL_ERROR;
     }
 }

@@ -17,7 +17,7 @@ mod tables;
 
 use measure::Measured;
 use scenarios::{Scenario, Start};
-use sides::{perform, Call, Lent, LIBRARY, PLAIN};
+use sides::{perform, text_of, Call, Lent, LIBRARY, PLAIN};
 
 /// Fails if the sides differ in the outcome or in any cell lent, or if the scenario is not what it says.
 fn compare(scenario: &Scenario) {
@@ -31,6 +31,9 @@ fn compare(scenario: &Scenario) {
     assert_eq!(library.0, *expected, "{name}: the library's outcome");
     assert_eq!(plain.0, *expected, "{name}: the plain version's outcome");
     assert!(library.1 == plain.1, "{name}: the cells left");
+    if let Call::Restore(text) = call {
+        assert!(text_of(library.1.tables()) == *text, "{name}: the text again");
+    }
 }
 
 /// What is counted, in the order in which report.rs takes the counts.

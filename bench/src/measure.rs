@@ -92,7 +92,7 @@ pub fn fastest(tables: &[u64], call: &Call, times: u32) -> [f64; 2] {
     for _ in 0..REPETITIONS {
         clock = clock.min(timed(|| ()));
         for (side, best) in [&LIBRARY, &PLAIN].into_iter().zip(&mut best) {
-            lent.restore(&start);
+            lent.reset(&start);
             *best = timed(|| (0..times).for_each(|_| _ = black_box(perform(side, call, &mut lent)))).min(*best);
         }
     }

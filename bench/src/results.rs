@@ -1,6 +1,6 @@
 //! The result structs of the interface as plain numbers, and made from an answer alone.
 
-use crate::ffi::{Changed, Created, EventState, MutexState, SemState, Waited, Written};
+use crate::ffi::{Changed, Created, EventState, MutexState, Restored, SemState, Waited, Written};
 
 /// The answer and the numbers with it, in the order of the call's struct.
 pub type Outcome = [u64; 3];
@@ -39,4 +39,5 @@ results! {
     Changed { previous, woken }
     Waited { index, ticket }
     Written { length }
+    Restored { offset }
 }

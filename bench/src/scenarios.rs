@@ -3,7 +3,7 @@
 use crate::ffi::*;
 use crate::plain::cells::{parts_mut, wait_mut, EVENT, SEMAPHORE, TIMEOUT};
 use crate::results::Outcome;
-use crate::sides::{Call, FreshWait, TIME};
+use crate::sides::{text_of, Call, FreshWait, TIME};
 use crate::tables::*;
 
 /// Named tables.
@@ -76,6 +76,7 @@ pub fn scenarios() -> Vec<Scenario> {
     all.extend(waiting_any(&typical, &full));
     all.extend(waiting_all(&typical, &full));
     all.extend(ending(&empty, &typical, &full));
+    all.extend(saving(&empty, &typical, &full));
     all
 }
 
@@ -197,8 +198,21 @@ fn ending(empty: &Start, typical: &Start, full: &Start) -> Vec<Scenario> {
         row(typical, Call::Cancel(6), "last wait", EINTR, 0, 0),
         row(full, Call::Cancel(32), "last wait", EINTR, 0, 0),
         row(full, Call::Cancel(33), "no such ticket", EINVAL, 0, 0),
-        row(empty, Call::Snapshot, "25 bytes", DONE, 25, 0),
-        row(typical, Call::Snapshot, "2,261 bytes", DONE, 2261, 0),
-        row(full, Call::Snapshot, "22,139 bytes", DONE, 22139, 0),
+    ]
+}
+
+/// A text is read over other tables than those that it shows and that its row names.
+fn saving(empty: &Start, typical: &Start, full: &Start) -> Vec<Scenario> {
+    let restore = |shown: &Start, what| {
+        let other = Start { name: shown.name, tables: WORST.tables() };
+        row(&other, Call::Restore(text_of(&shown.tables)), what, DONE, 0, 0)
+    };
+    vec![
+        row(empty, Call::Snapshot, "34 bytes", DONE, 34, 0),
+        row(typical, Call::Snapshot, "2,272 bytes", DONE, 2272, 0),
+        row(full, Call::Snapshot, "22,151 bytes", DONE, 22151, 0),
+        restore(empty, "34 bytes"),
+        restore(typical, "2,272 bytes"),
+        restore(full, "22,151 bytes"),
     ]
 }

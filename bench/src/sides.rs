@@ -44,6 +44,7 @@ pub struct Side {
     expire: SignalBy<u64>,
     cancel: unsafe extern "C" fn(*mut u64, usize, u64) -> u32,
     snapshot: unsafe extern "C" fn(*const u64, usize, *mut u8, usize) -> Written,
+    restore: unsafe extern "C" fn(*mut u64, usize, *const u8, usize) -> Restored,
 }
 
 pub static LIBRARY: Side = Side {
@@ -67,6 +68,7 @@ pub static LIBRARY: Side = Side {
     expire: ntsync_expire,
     cancel: ntsync_cancel,
     snapshot: ntsync_snapshot,
+    restore: ntsync_restore,
 };
 
 pub static PLAIN: Side = Side {
@@ -90,6 +92,7 @@ pub static PLAIN: Side = Side {
     expire: plain_expire,
     cancel: plain_cancel,
     snapshot: plain_snapshot,
+    restore: plain_restore,
 };
 
 /// A fresh wait of owner 99 on the monotonic clock, at time 1000.
@@ -125,6 +128,7 @@ pub enum Call {
     Expire(u32, u64),
     Cancel(u64),
     Snapshot,
+    Restore(Vec<u8>),
 }
 
 /// What a call is lent: only a snapshot has a buffer.
@@ -142,7 +146,12 @@ impl Lent {
         Lent { tables: tables.to_vec(), wake: vec![u64::MAX; WAKE_CELLS], buffer: vec![u8::MAX; bytes] }
     }
 
-    pub fn restore(&mut self, start: &Lent) {
+    pub fn tables(&self) -> &[u64] {
+        &self.tables
+    }
+
+    /// As it was at the start.
+    pub fn reset(&mut self, start: &Lent) {
         self.tables.copy_from_slice(&start.tables);
         self.wake.copy_from_slice(&start.wake);
         self.buffer.copy_from_slice(&start.buffer);
@@ -181,6 +190,7 @@ impl Call {
             Call::Expire(..) => "expire",
             Call::Cancel(..) => "cancel",
             Call::Snapshot => "snapshot",
+            Call::Restore(..) => "restore",
         }
     }
 }
@@ -214,8 +224,17 @@ pub fn perform(side: &Side, call: &Call, lent: &mut Lent) -> Outcome {
             Call::Expire(clock, time) => (side.expire)(t, n, w, wn, clock, time).into(),
             Call::Cancel(ticket) => alone((side.cancel)(t, n, ticket)),
             Call::Snapshot => (side.snapshot)(t, n, lent.buffer.as_mut_ptr(), lent.buffer.len()).into(),
+            Call::Restore(ref text) => (side.restore)(t, n, text.as_ptr(), text.len()).into(),
         }
     }
+}
+
+/// The tables as the plain version writes them; main.rs holds the library's text to it.
+pub fn text_of(tables: &[u64]) -> Vec<u8> {
+    let mut lent = Lent::new(tables, &Call::Snapshot);
+    let [_, length, _] = perform(&PLAIN, &Call::Snapshot, &mut lent);
+    lent.buffer.truncate(length as usize);
+    lent.buffer
 }
 
 unsafe fn wait(wait: Wait, t: *mut u64, n: usize, asked: &FreshWait) -> Outcome {

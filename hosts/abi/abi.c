@@ -24,6 +24,7 @@ static void layouts(void)
     THREE(ntsync_changed, answer, previous, woken);
     THREE(ntsync_waited, answer, index, ticket);
     TWO(ntsync_written, answer, length);
+    TWO(ntsync_restored, answer, offset);
 }
 
 static void sizes(void)
@@ -56,13 +57,14 @@ static void answers(void)
     CONSTANT(NTSYNC_BUSY);
     CONSTANT(NTSYNC_QUEUED);
     CONSTANT(NTSYNC_LIST_SHORT);
+    CONSTANT(NTSYNC_NOT_A_SNAPSHOT);
 }
 
 /* ---- one run of every call: all fields of what it returned, in the order of the struct */
 
 static void one(const char *call, uint32_t a) { printf("%s %u\n", call, (unsigned)a); }
 
-static void two(const char *call, uint32_t a, uint32_t b) { printf("%s %u %u\n", call, (unsigned)a, (unsigned)b); }
+static void two(const char *call, uint32_t a, uint64_t b) { printf("%s %u %llu\n", call, (unsigned)a, (unsigned long long)b); }
 
 static void three(const char *call, uint32_t a, uint32_t b, uint64_t c)
 {
@@ -126,9 +128,21 @@ static void signals(void)
     changed("reset", ntsync_reset(tables, NTSYNC_CELLS, 3));
     changed("pulse", ntsync_pulse(tables, NTSYNC_CELLS, wake, NTSYNC_WAKE_CELLS, 3));
     one("cancel", ntsync_cancel(tables, NTSYNC_CELLS, 3));
+}
+
+static void restored(const char *call, ntsync_restored r) { two(call, r.answer, r.offset); }
+
+/* The snapshot, read back into other cells; then all but its last byte. */
+static void snapshots(void)
+{
+    static uint64_t other[NTSYNC_CELLS];
     ntsync_written r = ntsync_snapshot(tables, NTSYNC_CELLS, buffer, sizeof buffer);
     two("snapshot", r.answer, r.length);
     fwrite(buffer, 1, r.length, stdout);
+    restored("restore", ntsync_restore(other, NTSYNC_CELLS, buffer, r.length));
+    one("as queued", ntsync_cancel(other, NTSYNC_CELLS, 2));
+    restored("restore", ntsync_restore(other, NTSYNC_CELLS, buffer, r.length - 1));
+    one("unaltered", ntsync_cancel(other, NTSYNC_CELLS, 2));
 }
 
 int main(void)
@@ -139,5 +153,6 @@ int main(void)
     objects();
     waits();
     signals();
+    snapshots();
     return 0;
 }

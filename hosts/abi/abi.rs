@@ -23,6 +23,7 @@ fn layouts() {
     layout!("ntsync_changed", Changed, answer, previous, woken);
     layout!("ntsync_waited", Waited, answer, index, ticket);
     layout!("ntsync_written", Written, answer, length);
+    layout!("ntsync_restored", Restored, answer, offset);
 }
 
 fn sizes() {
@@ -53,6 +54,7 @@ fn answers() {
     println!("NTSYNC_BUSY {BUSY}");
     println!("NTSYNC_QUEUED {QUEUED}");
     println!("NTSYNC_LIST_SHORT {LIST_SHORT}");
+    println!("NTSYNC_NOT_A_SNAPSHOT {NOT_A_SNAPSHOT}");
 }
 
 fn created(call: &str, r: Created) {
@@ -70,7 +72,7 @@ fn changed(call: &str, r: Changed, wake: &[u64]) {
     }
 }
 
-// SAFETY, for the three functions below: every array is owned, apart from the others, and lent with its length.
+// SAFETY, for the four functions below: every array is owned, apart from the others, and lent with its length.
 
 fn objects(tables: &mut [u64]) {
     let (t, n) = (tables.as_mut_ptr(), tables.len());
@@ -112,7 +114,7 @@ fn waits(tables: &mut [u64]) {
 }
 
 fn signals(tables: &mut [u64]) {
-    let (mut wake, mut buffer) = ([0; WAKE_CELLS], vec![0; SNAPSHOT_BYTES]);
+    let mut wake = [0; WAKE_CELLS];
     let (t, n, k) = (tables.as_mut_ptr(), tables.len(), WAKE_CELLS);
     unsafe {
         changed("post", ntsync_post(t, n, wake.as_mut_ptr(), k, 1, 2), &wake);
@@ -123,9 +125,24 @@ fn signals(tables: &mut [u64]) {
         changed("reset", ntsync_reset(t, n, 3), &wake);
         changed("pulse", ntsync_pulse(t, n, wake.as_mut_ptr(), k, 3), &wake);
         println!("cancel {}", ntsync_cancel(t, n, 3));
-        let r = ntsync_snapshot(t, n, buffer.as_mut_ptr(), buffer.len());
+    }
+}
+
+fn restored(call: &str, r: Restored) {
+    println!("{call} {} {}", r.answer, r.offset);
+}
+
+fn snapshots(tables: &[u64]) {
+    let (mut other, mut buffer) = (vec![0; CELLS], vec![0; SNAPSHOT_BYTES]);
+    let (o, b, n) = (other.as_mut_ptr(), buffer.as_mut_ptr(), tables.len());
+    unsafe {
+        let r = ntsync_snapshot(tables.as_ptr(), n, b, buffer.len());
         println!("snapshot {} {}", r.answer, r.length);
         print!("{}", String::from_utf8_lossy(&buffer[..r.length as usize]));
+        restored("restore", ntsync_restore(o, n, b, r.length as usize));
+        println!("as queued {}", ntsync_cancel(o, n, 2));
+        restored("restore", ntsync_restore(o, n, b, r.length as usize - 1));
+        println!("unaltered {}", ntsync_cancel(o, n, 2));
     }
 }
 
@@ -137,4 +154,5 @@ fn main() {
     objects(&mut tables);
     waits(&mut tables);
     signals(&mut tables);
+    snapshots(&tables);
 }

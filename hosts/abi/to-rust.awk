@@ -3,7 +3,7 @@ BEGIN {
     rust["uint8_t"] = "u8"; rust["uint32_t"] = "u32"; rust["uint64_t"] = "u64"; rust["size_t"] = "usize"
     rust["ntsync_created"] = "Created"; rust["ntsync_sem_state"] = "SemState"; rust["ntsync_mutex_state"] = "MutexState"
     rust["ntsync_event_state"] = "EventState"; rust["ntsync_changed"] = "Changed"; rust["ntsync_waited"] = "Waited"
-    rust["ntsync_written"] = "Written"
+    rust["ntsync_written"] = "Written"; rust["ntsync_restored"] = "Restored"
 }
 
 # "const uint64_t*tables" is "tables: *const u64".

@@ -1,4 +1,5 @@
-/* A program without libc: memcpy and memset of its own, no start files. Exit code 0 if a wait is queued and woken. */
+/* A program without libc: memcpy and memset of its own, no start files. Exit code 0 if a wait is queued and woken, and the
+ * tables are restored from their snapshot. */
 #include "ntsync.h"
 
 void *memcpy(void *to, const void *from, size_t bytes);
@@ -28,8 +29,9 @@ static int woken(void)
     ntsync_waited asked = ntsync_wait_all(tables, NTSYNC_CELLS, &event, 1, 6, 0, NTSYNC_MONOTONIC, 0, NTSYNC_NEVER, 0);
     ntsync_changed set = ntsync_set(tables, NTSYNC_CELLS, wake, NTSYNC_WAKE_CELLS, event);
     ntsync_written text = ntsync_snapshot(tables, NTSYNC_CELLS, buffer, sizeof buffer);
+    ntsync_restored back = ntsync_restore(tables, NTSYNC_CELLS, buffer, text.length);
     return made == NTSYNC_DONE && asked.answer == NTSYNC_QUEUED && set.woken == 1 && wake[0] == asked.ticket
-        && text.length > 0;
+        && text.length > 0 && back.answer == NTSYNC_DONE;
 }
 
 /* Linux's exit, by its number. */

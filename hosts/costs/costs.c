@@ -6,7 +6,7 @@
 
 #include <stdio.h>
 
-enum { STACK = 65536, CALLS = 20, ARGUMENTS = 10, STACK_ARGUMENTS = 4, LISTED = NTSYNC_MAX_LISTED, KEY = 64, OWNER = 7 };
+enum { STACK = 131072, CALLS = 21, ARGUMENTS = 10, STACK_ARGUMENTS = 4, LISTED = NTSYNC_MAX_LISTED, KEY = 64, OWNER = 7 };
 
 /* The results come in two registers: none is longer than 16 bytes. */
 typedef struct { uint64_t low, high; } registers;
@@ -47,6 +47,7 @@ static measured calls[CALLS] = {
     CALL(ntsync_read_event), CALL(ntsync_post),       CALL(ntsync_unlock),     CALL(ntsync_kill_owner),
     CALL(ntsync_set),        CALL(ntsync_reset),      CALL(ntsync_pulse),      WAIT(ntsync_wait_any),
     WAIT(ntsync_wait_all),   CALL(ntsync_expire),     CALL(ntsync_cancel),     CALL(ntsync_snapshot),
+    CALL(ntsync_restore),
 };
 
 static size_t painted_call(const measured *m, const uint64_t *arguments, unsigned char paint, registers *result)
@@ -212,12 +213,41 @@ static void endings(void)
     measure((entry)ntsync_cancel, NTSYNC_EINVAL, ARGS(NTSYNC_WAIT_PLACES + 1));
 }
 
-/* Damage in the last cell: the check reads all before it. */
+static size_t take(void) { return ntsync_snapshot(tables, NTSYNC_CELLS, buffer, sizeof buffer).length; }
+
+/* The snapshot of full tables, all of it, cut at each byte of its last line, and with another sum: every line is read, and the
+ * queue looked through. The waits are for all but the last, which has an alert. */
+static void restores_of(uint32_t kind)
+{
+    build(kind, NTSYNC_WAIT_PLACES - 1);
+    uint32_t alert = kind == 2 ? KEY : 0;
+    must(ntsync_wait_any(tables, NTSYNC_CELLS, list + KEY - 1, 1, OWNER, alert, 0, 0, NTSYNC_NEVER, 0).answer, NTSYNC_QUEUED,
+         "wait");
+    size_t length = take();
+    measure((entry)ntsync_restore, NTSYNC_DONE, ARGS((uint64_t)buffer, length));
+    for (size_t cut = 1; buffer[length - cut - 1] != '\n'; cut++)
+        measure((entry)ntsync_restore, NTSYNC_NOT_A_SNAPSHOT, ARGS((uint64_t)buffer, length - cut));
+    buffer[length - 2] ^= 1;
+    measure((entry)ntsync_restore, NTSYNC_NOT_A_SNAPSHOT, ARGS((uint64_t)buffer, length));
+}
+
+/* Also with a wait that could be served: the host wrote to the cell that has whether the key is signaled. */
+static void restores(void)
+{
+    for (uint32_t kind = 0; kind < 3; kind++)
+        restores_of(kind);
+    tables[4 * KEY - 2] = 1;
+    measure((entry)ntsync_restore, NTSYNC_NOT_A_SNAPSHOT, ARGS((uint64_t)buffer, take()));
+    measure((entry)ntsync_restore, NTSYNC_NOT_A_SNAPSHOT, ARGS((uint64_t)buffer, 0));
+}
+
+/* Damage in the last cell: the check reads all before it. A restore does not look at the cells. */
 static void damaged(void)
 {
     tables[NTSYNC_CELLS - 1] = UINT64_MAX;
     for (size_t i = 2; i < CALLS; i++)
-        measure(calls[i].call, NTSYNC_CORRUPT, ARGS(WAKE, KEY, OWNER));
+        if (calls[i].call != (entry)ntsync_restore)
+            measure(calls[i].call, NTSYNC_CORRUPT, ARGS(WAKE, KEY, OWNER));
 }
 
 int main(void)
@@ -227,6 +257,7 @@ int main(void)
     signals();
     waits();
     endings();
+    restores();
     damaged();
     for (size_t i = 0; i < CALLS; i++)
         printf("%s %u\n", calls[i].name, (unsigned)calls[i].worst);

@@ -66,6 +66,7 @@ static void operate(plant *p)
     switch (p->clocks[NTSYNC_MONOTONIC]) {
     case 5: set_clock_back(p); break;
     case 25: close_manifold(p); break;
+    case END / 2: cut_power(p); break;
     case 35: find_valve_dead(p); break;
     case 45: pulse_flush(p); break;
     case 55: cancel_recorder(p); break;

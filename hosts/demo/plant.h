@@ -32,6 +32,9 @@ ntsync_changed result(uint32_t answer, uint32_t previous, uint32_t woken);
 /* plant.c: the objects and the tasks over them */
 void build_plant(plant *p);
 
+/* power.c: the tables are lost, and restored from a snapshot */
+void cut_power(plant *p);
+
 /* one file each */
 step_function pump_step, valve_step, standby_step, sensor_step, recorder_step;
 

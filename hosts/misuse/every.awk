@@ -4,7 +4,8 @@
 BEGIN {
     RS = ";"
     value["tables"] = "t"; value["cells"] = "NTSYNC_CELLS"; value["wake"] = "w"; value["wake_cells"] = "NTSYNC_WAKE_CELLS"
-    value["list"] = "l"; value["n"] = "1"; value["buffer"] = "b"; value["bytes"] = "NTSYNC_SNAPSHOT_BYTES"
+    value["list"] = "l"; value["n"] = "1"; value["buffer"] = "b"; value["text"] = "b"
+    value["bytes"] = "NTSYNC_SNAPSHOT_BYTES"
     long["cells"] = "sizeof t"; long["wake_cells"] = "sizeof w"; long["n"] = "sizeof l"; long["bytes"] = "sizeof b + 1"
     print "#include \"ntsync.h\"\nstatic uint64_t t[NTSYNC_CELLS], w[NTSYNC_WAKE_CELLS];"
     print "static uint32_t l[1];\nstatic uint8_t b[NTSYNC_SNAPSHOT_BYTES];\nint main(void)\n{"

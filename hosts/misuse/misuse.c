@@ -9,7 +9,7 @@
 #define PROGRAM                                                                                     \
     ntsync_wait w = {.list = list, .n = 1, .owner = 6, .deadline = now + 5, .now = now};            \
     return ntsync_set(TABLES, WAKE, handle).woken + ntsync_wait_for_any(TABLES, &w).answer          \
-        + ntsync_snapshot(TABLES, buffer, sizeof buffer).length;
+        + ntsync_restore(TABLES, buffer, ntsync_snapshot(TABLES, buffer, sizeof buffer).length).answer;
 #elif CASE == 1 /* the number of woken tasks is dropped */
 #define PROGRAM ntsync_set(TABLES, WAKE, handle);
 #elif CASE == 2 /* the ticket is dropped */
@@ -55,6 +55,10 @@
     return ntsync_wait_all_list(h->tables, sizeof h->tables, list, 1, 6, 0, NTSYNC_MONOTONIC, 0, now + 5, now).answer;
 #elif CASE == 18 /* a null list that is said to have a handle */
 #define PROGRAM return ntsync_wait_any_list(TABLES, NULL, 1, 6, 0, NTSYNC_MONOTONIC, 0, now + 5, now).answer;
+#elif CASE == 19 /* the answer is dropped: perhaps the text was refused, and the tables are the old ones */
+#define PROGRAM ntsync_restore(TABLES, buffer, sizeof buffer);
+#elif CASE == 20 /* a text that is shorter than it is said to be */
+#define PROGRAM return ntsync_restore(TABLES, buffer + 1, sizeof buffer).answer;
 #endif
 
 typedef struct { uint64_t tables[NTSYNC_CELLS], wake[NTSYNC_WAKE_CELLS]; } host;

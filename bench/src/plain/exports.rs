@@ -3,7 +3,7 @@
 
 use super::check::valid;
 use super::queue::Asked;
-use crate::ffi::{Changed, Created, EventState, MutexState, SemState, Waited, Written};
+use crate::ffi::{Changed, Created, EventState, MutexState, Restored, SemState, Waited, Written};
 use std::slice::{from_raw_parts, from_raw_parts_mut};
 
 macro_rules! pointer {
@@ -52,6 +52,7 @@ export! {
     plain_expire(tables[cells]: write u64, wake[size]: write u64; clock: u32, time: u64) -> Changed = expire;
     plain_cancel(tables[cells]: write u64; ticket: u64) -> u32 = cancel;
     plain_snapshot(tables[cells]: read u64, buffer[bytes]: write u8;) -> Written = snapshot;
+    plain_restore(tables[cells]: write u64, text[bytes]: read u8;) -> Restored = restore;
 }
 
 /// The two waits differ in their mode alone.

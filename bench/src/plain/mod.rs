@@ -6,6 +6,7 @@ mod check;
 pub mod exports;
 mod object;
 mod queue;
+mod restore;
 mod snapshot;
 
 use crate::ffi::*;
@@ -209,4 +210,15 @@ fn snapshot(tables: &[u64], buffer: &mut [u8]) -> Outcome<Written> {
     lent(tables, buffer, SNAPSHOT_BYTES)?;
     let length = snapshot::write(parts(tables), buffer).expect("every text fits");
     Ok(Written { answer: DONE, length: length as u32 })
+}
+
+fn restore(tables: &mut [u64], text: &[u8]) -> Outcome<Restored> {
+    if tables.len() != CELLS {
+        return Err(CORRUPT);
+    }
+    match restore::read(text) {
+        Ok(made) => tables.copy_from_slice(&made),
+        Err(offset) => return Ok(Restored { answer: NOT_A_SNAPSHOT, offset: offset as u64 }),
+    }
+    Ok(Restored { answer: DONE, offset: 0 })
 }

@@ -2,12 +2,21 @@
 
 use super::cells::*;
 use super::object::{get, Object};
+use super::restore::sum;
 use crate::ffi::OBJECT_PLACES;
 use std::io::{Result, Write};
 
 /// Writes the text to the front of the buffer; its length.
 pub fn write(tables: Parts, buffer: &mut [u8]) -> Result<usize> {
     let size = buffer.len();
+    let length = size - write_lines(tables, buffer)?.len();
+    let (lines, mut rest) = buffer.split_at_mut(length);
+    writeln!(rest, "sum={}", sum(lines))?;
+    Ok(size - rest.len())
+}
+
+/// All lines but the sum; the rest of the buffer.
+fn write_lines<'a>(tables: Parts, buffer: &'a mut [u8]) -> Result<&'a mut [u8]> {
     let mut rest = buffer;
     let handles = 1..=OBJECT_PLACES as u32;
     let occupied = handles.clone().filter(|&handle| get(tables.objects, handle).is_some()).count();
@@ -18,7 +27,7 @@ pub fn write(tables: Parts, buffer: &mut [u8]) -> Result<usize> {
         }
     }
     write_waits(&mut rest, tables.waits)?;
-    Ok(size - rest.len())
+    Ok(rest)
 }
 
 fn write_object(out: &mut impl Write, handle: u32, object: Object) -> Result<()> {

@@ -193,11 +193,11 @@ fn longest_text() -> Tables {
     put_next(full_mutexes().create_event(0, 0), NEVER - 32).queue_many(&[128u32; 64], CEILING, 128)
 }
 
-// 28,425 bytes, which as the length of a buffer are too few.
+// 28,437 bytes, which as the length of a buffer are too few.
 fn longest() {
     let t = longest_text();
     let cells = t.cells;
-    measured(&cells, &mut [SENTINEL; 28425]);
+    measured(&cells, &mut [SENTINEL; 28437]);
     measured(&cells, &mut [SENTINEL; BUFFER_LENGTH]);
 }
 

@@ -1,12 +1,13 @@
 -- One attempt over a list of handles, the same for a fresh wait and for a queued one.
 use Prim.Native.Nat.{ℕ}
 use mathlib.Core.List.{List}
-use mathlib.Core.Bool.{Bool, true, false, _||_, cond}
+use mathlib.Core.Bool.{Bool, true, false, _&&_, _||_, cond}
 use lib.ListN.{length, getD}
 use lib.Dec.{eqb, ltb}
-use Rattle.cells.specs.Fold.{foldBelow, allBelow, searchFrom}
+use Rattle.model.specs.Sizes.{waitPlaces}
+use Rattle.cells.specs.Fold.{foldBelow, allBelow, someBelow, searchFrom}
 use Rattle.cells.specs.Objects.{named, store, signaledFields, acquiredFields, abandonedFields}
-use Rattle.cells.specs.Waits.{modeAt, ownerAt, alertAt, listOf}
+use Rattle.cells.specs.Waits.{modeAt, ownerAt, alertAt, listOf, queuedAt}
 
 unfoldable pub signaledAt : List ℕ → ℕ → ℕ → Bool
 signaledAt t asking h = signaledFields asking (named t h)
@@ -80,3 +81,16 @@ allAt t p = takeAll t (ownerAt t p) (listOf t p)
 -- its attempt
 unfoldable pub tryAt : List ℕ → ℕ → Tried
 tryAt t p = tryList t (modeAt t p) (ownerAt t p) (alertAt t p) (listOf t p)
+
+-- COULD BE SERVED, nothing taken: by the list, or by the alert after it; some queued wait could
+unfoldable pub listServes : List ℕ → ℕ → ℕ → List ℕ → Bool
+listServes t mode asking list = cond (eqb mode 0) (ltb (lookAny t asking list) (length list)) (lookAll t asking list)
+
+unfoldable pub servableAt : List ℕ → ℕ → Bool
+servableAt t p = listServes t (modeAt t p) (ownerAt t p) (listOf t p) || signaledAt t (ownerAt t p) (alertAt t p)
+
+unfoldable pub readyAt : List ℕ → ℕ → Bool
+readyAt t p = queuedAt t p && servableAt t p
+
+abbrev pub someServable : List ℕ → Bool
+someServable t = someBelow (readyAt t) waitPlaces

@@ -1,12 +1,12 @@
 -- The snapshot's text in the shape of its writer.
-use Prim.Native.Nat.{ℕ, zero, suc, _+_}
+use Prim.Native.Nat.{ℕ, zero, suc, _+_, _%_}
 use mathlib.Core.List.{List, [], _∷_, _++_}
 use mathlib.Core.Bool.{Bool, true, false, cond}
 use lib.ListN.{length, getD}
 use lib.Dec.{eqb, ltb}
-use Rattle.model.specs.Sizes.{objectPlaces, waitPlaces}
+use Rattle.model.specs.Sizes.{objectPlaces, waitPlaces, word32}
 use Rattle.model.specs.Basics.{bit}
-use Rattle.model.specs.Snapshot.{ascii, line}
+use Rattle.model.specs.Snapshot.{ascii, line, byteSum}
 use Rattle.cells.specs.Fold.{foldBelow}
 use Rattle.cells.specs.Objects.{Fields, fieldsAt}
 use Rattle.cells.specs.Waits.{nextTicket, queuedAt, ticketAt, modeAt, ownerAt, clockAt, timeoutAt, countAt, alertAt, listOf, nextWait}
@@ -56,5 +56,8 @@ unfoldable pub waitsTextFrom : ℕ → List ℕ → ℕ → List ℕ
 waitsTextFrom zero t last = []
 waitsTextFrom (suc n) t last = let p = nextWait t last in let rest = waitsTextFrom n t (ticketAt t p) in cond (ltb p waitPlaces) (waitTextAt t p ++ rest) []
 
+unfoldable pub bodyOf : List ℕ → List ℕ
+bodyOf t = line "next=" (nextTicket t) ++ (line "objects=" (objectTotal t) ++ (objectsTextBelow t objectPlaces ++ (line "waits=" (waitTotal t) ++ waitsTextFrom waitPlaces t 0)))
+
 unfoldable pub snapshotOf : List ℕ → List ℕ
-snapshotOf t = line "next=" (nextTicket t) ++ (line "objects=" (objectTotal t) ++ (objectsTextBelow t objectPlaces ++ (line "waits=" (waitTotal t) ++ waitsTextFrom waitPlaces t 0)))
+snapshotOf t = bodyOf t ++ line "sum=" (byteSum (bodyOf t) % word32)

@@ -16,6 +16,9 @@ waitCell p = waitsBase + waitSize * p
 abbrev pub nextTicket : List ℕ → ℕ
 nextTicket t = getD t 0 0
 
+abbrev pub putNext : List ℕ → ℕ → List ℕ
+putNext t n = set t 0 n
+
 unfoldable pub ticketAt : List ℕ → ℕ → ℕ
 ticketAt t p = inWait t p 0
 

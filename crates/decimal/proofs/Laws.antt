@@ -7,8 +7,8 @@ use native.Mathlib.Omega.{arith}
 use native.Mathlib.Nat.{add-zero}
 use native.Mathlib.Numerals.{add-one}
 use lib.Dec.{ltb}
-use lib.ListN.{length, getD, set, take, length-append}
-use lib.Seq.{sets, length-sets, length-take-le, take-suc, take-all, set-comm}
+use lib.ListN.{length, getD, set, take, drop, length-append}
+use lib.Seq.{sets, sets-eq, length-sets, length-take-le, take-suc, take-all, set-comm}
 use Rattle.model.specs.Snapshot.{digitsUpTo}
 use Rattle.model.proofs.Digits.{digits-one, digits-more}
 use Rattle.decimal.specs.Text.{Room, Wrote}
@@ -65,3 +65,14 @@ module _ (buf : List ℕ) (at place n : ℕ) (p : place + 1 ≡ at + length (dig
 
   pub digit-one : n < 10 → set buf place (48 + n) ≡ sets buf at (digitsUpTo 19 n)
   digit-one h = let c = count-one n h in let e : place ≡ at = omega arith in rw (e, digits-one n h)
+
+-- what was written at the front of a buffer is its front
+take-front : (x r : List ℕ) → take (length x) (x ++ r) ≡ x
+take-front [] r = refl
+take-front (b ∷ x) r = ap (λ (l : List ℕ). b ∷ l) (take-front x r)
+
+pub front-is : (buf x : List ℕ) (r : ℕ) (end : List ℕ) → Room buf 0 x → Wrote buf 0 x r end → take r end ≡ x
+front-is buf x r end l w = let p : r ≡ length x = (let q : r ≡ 0 + length x = w .1 in omega arith) in rw (p, w .0, sets-eq x buf 0 l) (take-front x (drop (0 + length x) buf))
+
+pub front-room : (buf x : List ℕ) (r : ℕ) (end : List ℕ) → Room buf 0 x → Wrote buf 0 x r end → r ≤ length end
+front-room buf x r end l w = let p : r ≡ 0 + length x = w .1 in let q : length end ≡ length buf = ap length (w .0) ∙ length-sets buf 0 x in omega arith

@@ -12,4 +12,5 @@ fn main() {
     cases_waits::cases();
     cases_refused::cases();
     cases_objects::snapshot_cases();
+    cases_restore::cases();
 }

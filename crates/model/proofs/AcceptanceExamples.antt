@@ -1,20 +1,22 @@
 -- P1 to P12 of document 01 ("Bench readings"), as one checked list, by computation, for the library's step and for the
 -- reference's.
 use mathlib.Core.Path.{_≡_, refl}
+use mathlib.Core.Bool.{false}
 use mathlib.Core.List.{List, [], _∷_, _++_, map}
 use Prim.Native.Nat.{ℕ, suc, _-_}
 use lib.ListN.{replicate}
 use Rattle.model.specs.Basics.{anyOf, member, hasRepeat, tabulate, joined}
 use Rattle.model.specs.Calls.{aSemaphore, aMutex, anEvent, post, unlock, kill, setEvent, pulseEvent, Operation}
 use Rattle.model.specs.Calls.{create, close, read, signal, wait, expire, cancel, wakeLent, Call, least}
-use Rattle.model.specs.Calls.{lowestEmpty, allOccupied, waitsFull, enqueue, refusals, admits, endEach, change}
+use Rattle.model.specs.Calls.{lowestEmpty, allOccupied, waitsFull, enqueue, refusals, admits, endEach, change, newWait}
 use Rattle.model.specs.Snapshot.{ascii, digitsUpTo, line, objectText, objectsText, objectCount, waitText}
-use Rattle.model.specs.Snapshot.{queueFrom, snapshotText}
+use Rattle.model.specs.Snapshot.{queueFrom, snapshotBody, byteSum, snapshotText}
 use Rattle.model.specs.Sizes.{objectPlaces, waitPlaces, mutexCeiling, never, wakeLength}
+use Rattle.model.specs.Objects.{empty, event}
 use Rattle.model.specs.Steps.{Outcome, firstRefusal, records, libraryStep, referenceStep, run}
 use Rattle.model.specs.Waits.{Mode, any, all, State, initial, lowestSignaled, allSignaled, look, attempt}
 use Rattle.model.specs.Waits.{acquireEach, anyAbandoned, dequeue, oldest, concernedBy, serve, tryToServe}
-use Rattle.model.specs.Waits.{walkQueue, searchQueue}
+use Rattle.model.specs.Waits.{walkQueue, searchQueue, WaitPlace, free, waiting}
 
 -- what the caller hears: the answer, the two numbers, the reports as (ticket, answer, index)
 pub record Heard : Type 0 where
@@ -147,13 +149,38 @@ pub further-reference : map (λ ops. map heard (run referenceStep initial (map c
 unfolding lowestSignaled allSignaled look attempt acquireEach anyAbandoned dequeue oldest serve tryToServe member concernedBy searchQueue referenceStep firstRefusal records run refusals change least lowestEmpty waitsFull enqueue allOccupied hasRepeat anyOf admits endEach tabulate
 further-reference = refl
 
--- P1's whole text
+-- the state after a history; P1's whole text
 abbrev lastState : List (Outcome State) → State
 lastState [] = initial
 lastState (o ∷ []) = o .held
 lastState (o ∷ p ∷ os) = lastState (p ∷ os)
 
-pub example-snapshot : snapshotText (lastState (run libraryStep initial (map calling setUp)))
-    ≡ ascii "next=2\nobjects=2\nhandle=1\nkind=sem\ncount=1\nmax=2\nhandle=2\nkind=event\nsignaled=0\nmanual=1\nwaits=1\nwait=1\nmode=all\nowner=7\nclock=mono\ntimeout=18446744073709551615\nalert=0\nn=2\nobj=1\nobj=2\n"
-unfolding lowestSignaled allSignaled look attempt acquireEach anyAbandoned dequeue oldest serve tryToServe member concernedBy walkQueue libraryStep firstRefusal records run refusals change least lowestEmpty waitsFull enqueue allOccupied hasRepeat anyOf admits snapshotText objectText objectsText objectCount waitText queueFrom joined line digitsUpTo
+abbrev pub reached : List Operation → State
+reached ops = lastState (run libraryStep initial (map calling ops))
+
+pub example-snapshot : snapshotText (reached setUp)
+    ≡ ascii "next=2\nobjects=2\nhandle=1\nkind=sem\ncount=1\nmax=2\nhandle=2\nkind=event\nsignaled=0\nmanual=1\nwaits=1\nwait=1\nmode=all\nowner=7\nclock=mono\ntimeout=18446744073709551615\nalert=0\nn=2\nobj=1\nobj=2\nsum=15010\n"
+unfolding lowestSignaled allSignaled look attempt acquireEach anyAbandoned dequeue oldest serve tryToServe member concernedBy walkQueue libraryStep firstRefusal records run refusals change least lowestEmpty waitsFull enqueue allOccupied hasRepeat anyOf admits snapshotText snapshotBody byteSum objectText objectsText objectCount waitText queueFrom joined line digitsUpTo
 example-snapshot = refl
+
+-- Two histories whose states differ in the place of ticket 2 alone (Alike.antt): ticket 1 is cancelled after 2 is queued, or
+-- before.
+abbrev pub cancelledLate : List Operation
+cancelledLate = create anEvent 0 0 ∷ waits any (1 ∷ []) 7 ∷ waits any (1 ∷ []) 7 ∷ cancel 1 ∷ []
+
+abbrev pub cancelledEarly : List Operation
+cancelledEarly = create anEvent 0 0 ∷ waits any (1 ∷ []) 7 ∷ cancel 1 ∷ waits any (1 ∷ []) 7 ∷ []
+
+abbrev pub second : WaitPlace
+second = waiting (newWait any (1 ∷ []) 7 0 0 never 2)
+
+abbrev pub oneEvent : WaitPlace → WaitPlace → State
+oneEvent p q = record {
+  objects = event false false ∷ replicate (objectPlaces - 1) empty;
+  waits = p ∷ q ∷ replicate (waitPlaces - 2) free;
+  next = 3;
+}
+
+pub example-places : (reached cancelledLate ≡ oneEvent free second) × (reached cancelledEarly ≡ oneEvent second free)
+unfolding lowestSignaled allSignaled look attempt acquireEach anyAbandoned dequeue oldest serve tryToServe member concernedBy walkQueue libraryStep firstRefusal records run refusals change least lowestEmpty waitsFull enqueue allOccupied hasRepeat anyOf admits endEach
+example-places = (refl, refl)

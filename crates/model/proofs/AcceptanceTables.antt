@@ -12,7 +12,7 @@ use Rattle.model.specs.Calls.{aSemaphore, anEvent, setEvent, unlock, cre
 use Rattle.model.specs.Calls.{nothingLent, wakeLent, asks, least, lowestEmpty, allOccupied, waitsFull, enqueue}
 use Rattle.model.specs.Calls.{refusals, admits, endEach, change}
 use Rattle.model.specs.Snapshot.{ascii, digitsUpTo, line, objectText, objectsText, objectCount, waitText}
-use Rattle.model.specs.Snapshot.{queueFrom, snapshotText}
+use Rattle.model.specs.Snapshot.{queueFrom, snapshotBody, byteSum, snapshotText}
 use Rattle.model.specs.Layout.{objectSize, waitSize, objectCells, waitCells, encode, view, distinctTickets}
 use Rattle.model.specs.Layout.{sameCells, validTables}
 use Rattle.model.specs.Steps.{firstRefusal, records, libraryStep, tableStep, Seen, sees, seen, hands, handed}
@@ -47,7 +47,7 @@ abbrev held : List ℕ
 held = heldBy5 3
 
 abbrev heldText : List ℕ
-heldText = ascii "next=4\nobjects=2\nhandle=1\nkind=mutex\nowner=5\ncount=3\nabandoned=0\nhandle=2\nkind=event\nsignaled=0\nmanual=0\nwaits=1\nwait=3\nmode=any\nowner=6\nclock=real\ntimeout=90\nalert=2\nn=1\nobj=1\n"
+heldText = ascii "next=4\nobjects=2\nhandle=1\nkind=mutex\nowner=5\ncount=3\nabandoned=0\nhandle=2\nkind=event\nsignaled=0\nmanual=0\nwaits=1\nwait=3\nmode=any\nowner=6\nclock=real\ntimeout=90\nalert=2\nn=1\nobj=1\nsum=15144\n"
 
 -- an unset auto event; ticket 1 waits for no objects until 50, for any (0) or for all (1), owner 7, the event its alert
 abbrev oneEvent : ℕ → List (List ℕ) → List ℕ
@@ -57,7 +57,7 @@ abbrev ofNone : ℕ → List ℕ
 ofNone mode = oneEvent 2 ((1 ∷ mode ∷ 7 ∷ 0 ∷ 50 ∷ 0 ∷ 1 ∷ []) ∷ [])
 
 abbrev ofNoneText : List ℕ
-ofNoneText = ascii "next=2\nobjects=1\nhandle=1\nkind=event\nsignaled=0\nmanual=0\nwaits=1\nwait=1\nmode=any\nowner=7\nclock=mono\ntimeout=50\nalert=1\nn=0\n"
+ofNoneText = ascii "next=2\nobjects=1\nhandle=1\nkind=event\nsignaled=0\nmanual=0\nwaits=1\nwait=1\nmode=any\nowner=7\nclock=mono\ntimeout=50\nalert=1\nn=0\nsum=10526\n"
 
 -- every object place an event; tickets spent; a semaphore of 2 of 1
 abbrev full : List ℕ
@@ -114,5 +114,5 @@ table-readings = (refl, refl, refl, refl, refl, refl, refl, refl, refl, refl, re
 
 -- a text with a mutex, mode any and the real-time clock, of the state that the tables show; one of a wait without obj lines
 pub text-reading : (snapshotText (view held) ≡ heldText) × (snapshotText (view (ofNone 0)) ≡ ofNoneText)
-unfolding view tabulate joined oldest snapshotText objectText objectsText objectCount waitText queueFrom line digitsUpTo
+unfolding view tabulate joined oldest snapshotBody byteSum snapshotText objectText objectsText objectCount waitText queueFrom line digitsUpTo
 text-reading = (refl, refl)

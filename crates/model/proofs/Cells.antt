@@ -182,8 +182,21 @@ waitOf-cells (waiting w) k f h =
     ∙ getD-take maxListed (w .list ++ replicate maxListed 0) j 0 (omega arith) ∙ List·getD-append (w .list) (replicate maxListed 0) 0 j i) in
     rw (e0, e1, e2, e3, e4, e5, e6, z, l, mode-cell (w .mode))
 
-pub place-ok : (s : State) → Valid s → (i : ℕ) → PlaceOk (getD (s .waits) i free)
-place-ok s g i = go (s .waits) i (λ w m. ((g .tickets w m) .0, (let (t0, (t1, (t2, (t3, (t4, (t5, r)))))) = passed _ (g .waits w m) in ltb-false maxListed _ (not-true _ t5))))
+-- what cells can show of a state, valid or not
+pub record Shaped (s : State) : Type 0 where
+  pub places : length (s .objects) ≡ objectPlaces
+  pub slots : length (s .waits) ≡ waitPlaces
+  pub waits : (w : Wait) → w isIn s .waits → (0 < w .ticket) × (length (w .list) ≤ maxListed)
+
+pub valid-shaped : (s : State) → Valid s → Shaped s
+valid-shaped s g = record {
+  places = g .places;
+  slots = g .slots;
+  waits = λ w m. ((g .tickets w m) .0, (let (t0, (t1, (t2, (t3, (t4, (t5, r)))))) = passed _ (g .waits w m) in ltb-false maxListed _ (not-true _ t5)));
+}
+
+shaped-ok : (s : State) → Shaped s → (i : ℕ) → PlaceOk (getD (s .waits) i free)
+shaped-ok s g i = go (s .waits) i (g .waits)
   where
     go : (ws : List WaitPlace) (i : ℕ) → ((w : Wait) → w isIn ws → (0 < w .ticket) × (length (w .list) ≤ maxListed)) → PlaceOk (getD ws i free)
     go [] i h = tt
@@ -192,19 +205,22 @@ place-ok s g i = go (s .waits) i (λ w m. ((g .tickets w m) .0, (let (t0, (t1, (
     go (free ∷ ws) (suc i) h = go ws i h
     go (waiting v ∷ ws) (suc i) h = go ws i (λ w m. h w (inr m))
 
--- VALID STATES ARE WHAT THEIR TABLES SHOW
+-- SHAPED STATES ARE WHAT THEIR TABLES SHOW
 pub view-objects : (s : State) → length (s .objects) ≡ objectPlaces → (view (encode s)) .objects ≡ s .objects
 unfolding view
 view-objects s full = tabulate-is empty (s .objects) objectPlaces (viewObject (encode s)) full (view-object s)
 
-pub view-encode : (s : State) → Valid s → view (encode s) ≡ s
+pub view-shaped : (s : State) → Shaped s → view (encode s) ≡ s
 unfolding view
-view-encode s g =
+view-shaped s g =
     let o : tabulate objectPlaces (viewObject (encode s)) ≡ s .objects = view-objects s (g .places) in
     let w : tabulate waitPlaces (viewWait (encode s)) ≡ s .waits = tabulate-is free (s .waits) waitPlaces (viewWait (encode s)) (g .slots)
-    (λ i h. waitOf-cells (getD (s .waits) i free) (place-ok s g i) (inWait (encode s) i) (λ j l. read-wait s i j (g .places) h l)) in
+    (λ i h. waitOf-cells (getD (s .waits) i free) (shaped-ok s g i) (inWait (encode s) i) (λ j l. read-wait s i j (g .places) h l)) in
     let n : getD (encode s) 0 0 ≡ s .next = read-next s in
     λ i. record { objects = o i; waits = w i; next = n i }
+
+pub view-encode : (s : State) → Valid s → view (encode s) ≡ s
+view-encode s g = view-shaped s (valid-shaped s g)
 
 -- the wait at place p leaves: its place is free, and no other changes
 pub at-in : (ws : List WaitPlace) (p : ℕ) (w : Wait) → getD ws p free ≡ waiting w → w isIn ws
@@ -293,7 +309,7 @@ pub holds : (s : State) (p : ℕ) (w : Wait) → Valid s → p < waitPlaces → 
 holds s p w g l e = let (t0, (t1, (t2, (t3, (t4, (t5, r)))))) = passed _ (g .waits w (at-in (s .waits) p w e)) in
     record { full = g .places; inside = (let q = g .slots in omega arith); here = e; fits = ltb-false maxListed (length (w .list)) (not-true _ t5) }
 
-pub free-cell : (s : State) (p j : ℕ) → Valid s → p < waitPlaces → getD (s .waits) p free ≡ free → j < waitSize → inWait (encode s) p j ≡ 0
+pub free-cell : (s : State) (p j : ℕ) → Shaped s → p < waitPlaces → getD (s .waits) p free ≡ free → j < waitSize → inWait (encode s) p j ≡ 0
 unfolding waitCells
 free-cell s p j g l e k = let q = g .slots in read-wait s p j (g .places) (omega arith) k ∙ ap (λ (x : WaitPlace). getD (waitCells x) j 0) e ∙ getD-replicate waitSize j 0 0 k
 

@@ -1,5 +1,6 @@
 pub mod AcceptanceExamples
 pub mod AcceptanceTables
+pub mod AcceptanceRestore
 pub mod WrongLibraries
 pub mod Logic
 pub mod Queue
@@ -13,6 +14,7 @@ pub mod Validity
 pub mod Literal
 pub mod Frame
 pub mod Digits
+pub mod SnapshotSum
 pub mod SnapshotLength
 pub mod Answers
 pub mod Reports
@@ -20,4 +22,12 @@ pub mod Places
 pub mod Sleeps
 pub mod Tables
 pub mod DamageExamples
+pub mod ReadLines
+pub mod ReadBack
+pub mod Placed
+pub mod ReadExactly
+pub mod ReadTests
+pub mod Accepting
+pub mod Alike
+pub mod Damage
 pub mod Theorems

@@ -21,7 +21,7 @@ use Rattle.model.specs.Waits.{Mode, any, all, Wait, WaitPlace, free, wai
 use Rattle.model.proofs.Logic.{byBool, clash, differ, and-split, or-left, or-right, or-split, eqb-same, member-at, at-member, passed, pass}
 use Rattle.model.proofs.Validity.{tables-valid, encoded-valid}
 use Rattle.model.proofs.Valid.{Valid, in-places, none-waiting, waiting-none, allOccupied-in, event-occupied}
-use Rattle.model.proofs.Cells.{objectCell, waitCell, read-object, flag, viewObject, viewWait, read-wait, encode-length, read-next, at-in, in-at, byPlace, Holds, holds, free-cell, ticket-is, mode-is, owner-is, clock-is, timeout-is, count-is, alert-is, list-is, rest-is}
+use Rattle.model.proofs.Cells.{valid-shaped, objectCell, waitCell, read-object, flag, viewObject, viewWait, read-wait, encode-length, read-next, at-in, in-at, byPlace, Holds, holds, free-cell, ticket-is, mode-is, owner-is, clock-is, timeout-is, count-is, alert-is, list-is, rest-is}
 
 eqb-nonzero : (n : ℕ) → 0 < n → eqb n 0 ≡ false
 eqb-nonzero n h = ne-eqb n 0 (λ e. let z : ⊥ = omega arith in z)
@@ -247,7 +247,7 @@ module _ (s : State) (g : Valid s) where
   alone-line : (p : ℕ) (w : Wait) → p < waitPlaces → getD (s .waits) p free ≡ waiting w → (q : ℕ) → q < waitPlaces → inWait (encode s) q 0 ≡ inWait (encode s) p 0 → q ≡ p
   alone-line p w l e q m i = let t : inWait (encode s) p 0 ≡ w .ticket = ticket-is s p w (holds s p w g l e) in let z : 0 < w .ticket = (g .tickets w (at-in (s .waits) p w e)) .0 in
       byPlace (getD (s .waits) q free)
-      (λ d. let k : inWait (encode s) q 0 ≡ 0 = free-cell s q 0 g m d (omega arith) in absurd (let x : ⊥ = omega arith in x))
+      (λ d. let k : inWait (encode s) q 0 ≡ 0 = free-cell s q 0 (valid-shaped s g) m d (omega arith) in absurd (let x : ⊥ = omega arith in x))
       (λ u d. distinct-at (s .waits) (g .distinct) q p u w d e (sym (ticket-is s q u (holds s q u g m d)) ∙ i ∙ t))
 
   wait-lines : (p : ℕ) (w : Wait) → p < waitPlaces → getD (s .waits) p free ≡ waiting w → ValidWait (encode s) p
@@ -283,9 +283,9 @@ module _ (s : State) (g : Valid s) where
     objects = λ p l. let q = g .places in
         rw (read-object s p 0 (omega arith) (omega arith), read-object s p 1 (omega arith) (omega arith), read-object s p 2 (omega arith) (omega arith), read-object s p 3 (omega arith) (omega arith))
         (object-lines (objectAt (s .objects) (suc p)) (g .objects (suc p)));
-    free = λ p l z j k. byPlace (getD (s .waits) p free) (λ e. free-cell s p j g l e k)
+    free = λ p l z j k. byPlace (getD (s .waits) p free) (λ e. free-cell s p j (valid-shaped s g) l e k)
         (λ w e. absurd (let t : inWait (encode s) p 0 ≡ w .ticket = ticket-is s p w (holds s p w g l e) in let y : 0 < w .ticket = (g .tickets w (at-in (s .waits) p w e)) .0 in let x : ⊥ = omega arith in x));
-    queued = λ p l n. byPlace (getD (s .waits) p free) (λ e. absurd (n (free-cell s p 0 g l e (omega arith)))) (λ w e. wait-lines p w l e);
+    queued = λ p l n. byPlace (getD (s .waits) p free) (λ e. absurd (n (free-cell s p 0 (valid-shaped s g) l e (omega arith)))) (λ w e. wait-lines p w l e);
   }
 
 -- CELLS WITH EVERY LINE are those of the state that they show

@@ -4,16 +4,16 @@ use mathlib.Core.Path.{_≡_, refl}
 use mathlib.Core.Bool.{Bool, true, false, not}
 use mathlib.Core.List.{List, [], _∷_, _++_}
 use mathlib.Core.Logic.{_⊎_, inl, inr, ⊎-elim}
-use Prim.Native.Nat.{ℕ, zero, suc, _+_, _-_, _*_, _^_, _≤_, _<_}
+use Prim.Native.Nat.{ℕ, zero, suc, _+_, _-_, _*_, _%_, _^_, _≤_, _<_}
 use Prim.Native.String.{String}
 use native.Mathlib.Omega.{arith}
-use native.Mathlib.Nat.{le-refl, le-trans, suc-mul}
+use native.Mathlib.Nat.{le-refl, le-trans, suc-mul, mod-le}
 use lib.ListN.{length, getD, replicate, length-append}
 use lib.Dec.{eqb, ltb, leb, lit≤}
 use borrow.Author.Tests.{ltb-true, ltb-false, leb-true, eqb-true, eqb-false, not-true, not-false}
 use Rattle.model.specs.Basics.{bit, allOf, tabulate, joined}
 use Rattle.model.specs.Calls.{allOccupied}
-use Rattle.model.specs.Snapshot.{ascii, digitsUpTo, line, objectText, objectsText, objectCount, modeText, clockText, waitText, queueFrom, snapshotText}
+use Rattle.model.specs.Snapshot.{ascii, digitsUpTo, line, objectText, objectsText, objectCount, modeText, clockText, waitText, queueFrom, snapshotBody, byteSum, snapshotText}
 use Rattle.model.specs.Layout.{validObject, validWait, distinctTickets}
 use Rattle.model.specs.Sizes.{objectPlaces, waitPlaces, maxListed, word32, word64, mutexCeiling, never, snapshotBuffer, longestSnapshot}
 use Rattle.model.specs.Objects.{Object, empty, semaphore, mutex, event, occupied, isEvent}
@@ -22,6 +22,7 @@ use Rattle.model.specs.Waits.{Mode, any, all, Wait, WaitPlace, waiting, 
 use Rattle.model.proofs.Digits.{digits, digits-bound, digits-u32, digits-u64}
 use Rattle.model.proofs.Logic.{byBool, byOption, clash, and-split, passed}
 use Rattle.model.proofs.Validity.{test-valid}
+use Rattle.model.proofs.SnapshotSum.{body-light}
 use Rattle.model.proofs.Valid.{Valid, AllValid, in-places, event-occupied}
 use Rattle.model.proofs.Queue.{oldest-none, oldest-some}
 
@@ -164,8 +165,8 @@ queue-length (suc n) last ws = byOption (oldest (λ w. ltb last (w .ticket)) ws)
     (λ w e. rw e (let l = queue-length n (w .ticket) ws in omega arith))
 
 -- THE WHOLE: objects of at most o bytes, waits of at most b each, and 47 bytes of the three other lines
-whole-most : (s : State) (o b : ℕ) → Valid s → Most (objectsText 1 (s .objects)) o → ((w : Wait) → w isIn s .waits → Most (waitText w) b) → Most (snapshotText s) (47 + o + waitPlaces * b)
-unfolding snapshotText
+whole-most : (s : State) (o b : ℕ) → Valid s → Most (objectsText 1 (s .objects)) o → ((w : Wait) → w isIn s .waits → Most (waitText w) b) → Most (snapshotBody s) (47 + o + waitPlaces * b)
+unfolding snapshotBody
 whole-most s o b g os ws =
     let p = g .places in let q = g .slots in let c = count-most (s .objects) in let l = queue-length (length (s .waits)) 0 (s .waits) in
     let e : 10 ^ 2 ≡ 100 = refl in
@@ -173,20 +174,24 @@ whole-most s o b g os ws =
     (then-most os (then-most (line-most "waits=" (below 1 {n = length (queueFrom (length (s .waits)) 0 (s .waits))} (omega arith))) (queue-most (length (s .waits)) 0 (s .waits) b ws)))))
     (rw q (omega arith))
 
+-- what the line of the sum leaves
+abbrev longestBody : ℕ
+longestBody = longestSnapshot - 12
+
 -- all objects mutexes, no alert
-noAlert-fits : 47 + (handleDigits 1 objectPlaces + 65 * objectPlaces) + waitPlaces * longWait 1 ≤ longestSnapshot
+noAlert-fits : 47 + (handleDigits 1 objectPlaces + 65 * objectPlaces) + waitPlaces * longWait 1 ≤ longestBody
 unfolding handleDigits digitsUpTo
 noAlert-fits = lit≤ tt
 
 -- one of them an event, the alert of every wait
-alert-fits : 47 + (handleDigits 1 objectPlaces + 65 * objectPlaces - 26) + waitPlaces * longWait 3 ≤ longestSnapshot
+alert-fits : 47 + (handleDigits 1 objectPlaces + 65 * objectPlaces - 26) + waitPlaces * longWait 3 ≤ longestBody
 unfolding handleDigits digitsUpTo
 alert-fits = lit≤ tt
 
 -- No snapshot of a valid state is longer. With an alert there is an event, 26 bytes shorter than a mutex; without, every
 -- wait is 2 bytes shorter.
-pub snapshot-longest : (s : State) → Valid s → length (snapshotText s) ≤ longestSnapshot
-snapshot-longest s g = let p = g .places in
+body-longest : (s : State) → Valid s → length (snapshotBody s) ≤ longestBody
+body-longest s g = let p = g .places in
     let ticket : (w : Wait) → w isIn s .waits → w .ticket < word64 = λ w m. (let (a, b) = g .tickets w m in let u = g .bounded in omega arith) in
     let alerted : Wait → Bool = λ w. not (eqb (w .alert) 0) in
     byOption (oldest alerted (s .waits))
@@ -197,6 +202,12 @@ snapshot-longest s g = let p = g .places in
     let a : isEvent (objectAt (s .objects) (v .alert)) ≡ true = ⊎-elim (λ (c : v .alert ≡ 0). absurd (eqb-false (v .alert) 0 (not-true _ (z .passes)) c)) (λ y. y) (alert-case (s .objects) v (g .waits v (z .stands))) in
     let k = whole-most s _ (longWait 3) g (alert-event (s .objects) (v .alert) (g .objects) a) (λ w m. wait-most (s .objects) w 3 p (g .waits w m) (ticket w m) (alert-short (s .objects) w p (g .waits w m))) in
     le-trans (rw p at (k .most)) alert-fits)
+
+-- the sum of so many bytes has at most seven digits
+pub snapshot-longest : (s : State) → Valid s → length (snapshotText s) ≤ longestSnapshot
+unfolding snapshotText
+snapshot-longest s g = let b = body-longest s g in let l = (body-light s) .light in let e : 10 ^ 7 ≡ 10000000 = refl in let m = mod-le (byteSum (snapshotBody s)) word32 in
+    (more-most {b = longestSnapshot} (then-most {x = snapshotBody s} (record { most = b }) (line-most "sum=" {n = byteSum (snapshotBody s) % word32} (below 6 (omega arith)))) (lit≤ tt)) .most
 
 pub snapshot-fits : (s : State) → Valid s → length (snapshotText s) ≤ snapshotBuffer
 snapshot-fits s g = le-trans (snapshot-longest s g) (lit≤ tt)
@@ -218,7 +229,7 @@ abbrev pub longest : State
 longest = record { objects = replicate (objectPlaces - 1) (mutex mutexCeiling mutexCeiling false) ++ (event false false ∷ []); waits = tabulate waitPlaces lateWait; next = never }
 
 pub longest-length : length (snapshotText longest) ≡ longestSnapshot
-unfolding snapshotText objectText objectsText objectCount waitText joined tabulate queueFrom line digitsUpTo oldest
+unfolding snapshotText snapshotBody byteSum objectText objectsText objectCount waitText joined tabulate queueFrom line digitsUpTo oldest
 longest-length = refl
 
 pub longest-valid : Valid longest

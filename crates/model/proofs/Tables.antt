@@ -2,14 +2,14 @@
 use mathlib.Core.Path.{_≡_, refl, ap, sym, _∙_}
 use mathlib.Core.Bool.{Bool, true, false, not, _&&_, and-true, cond}
 use mathlib.Core.List.{List, [], _∷_, map}
-use mathlib.Core.Option.{Option, none, some}
+use mathlib.Core.Option.{none}
 use mathlib.Core.Logic.{_⊎_, inl, inr, ⊎-elim, _↔_}
 use Prim.Native.Nat.{ℕ, zero, suc, _+_, _*_, _≤_, _<_}
 use native.Mathlib.Omega.{arith}
 use lib.ListN.{length, getD, replicate}
 use lib.Dec.{eqb, ltb}
 use borrow.Author.Tests.{eqb-false, le-ltb, eq-eqb, ne-eqb}
-use Rattle.model.specs.Basics.{corrupt, maybe, anyOf, member, tabulate, joined, All, overwrite}
+use Rattle.model.specs.Basics.{corrupt, anyOf, member, tabulate, joined, All, overwrite}
 use Rattle.model.specs.Calls.{Kind, create, newObject}
 use Rattle.model.specs.Calls.{signal, pulseEvent, wait, cancel, Lent, nothingLent, Call, asks, least, refusal}
 use Rattle.model.specs.Calls.{waitFaults, timeUp}
@@ -24,7 +24,7 @@ use Rattle.model.specs.Notions.{refusalNumbers, FirstIs, Quiet, touched,
 use Rattle.model.specs.Notions.{wrongObject, _isIn_}
 use Rattle.model.specs.Waits.{Mode, any, all, Wait, free, waiting, State, initial, objectAt, Grant, attempt}
 use Rattle.model.specs.Waits.{servable, anyAbandoned, servedAnswer, wakeByWalk, wakeBySearch}
-use Rattle.model.proofs.History.{Settled, step-same, step-settled, initial-settled}
+use Rattle.model.proofs.History.{Settled, step-same, step-settled}
 use Rattle.model.proofs.Waking.{each, search-quiet}
 use Rattle.model.proofs.Queue.{count-length}
 use Rattle.model.proofs.Logic.{byBool, byOption, isSome, clash}
@@ -39,7 +39,7 @@ use Rattle.model.proofs.Answers.{step-short, step-wrong, refusal-never,
 use Rattle.model.proofs.Answers.{step-ended, step-spends}
 use Rattle.model.proofs.Answers.{never-corrupt, step-exactly}
 use Rattle.model.proofs.Valid.{Valid, step-valid, valid-consistent}
-use Rattle.model.proofs.Cells.{encode-length, view-objects, view-encode}
+use Rattle.model.proofs.Cells.{view-objects, view-encode}
 
 -- a step on tables, by whether they are valid
 pub tables-case : (t : List ℕ) (c : Call) (P : Outcome (List ℕ) → Type 0) → (validTables t ≡ false → P (unaltered 9 (c .lent) t))
@@ -272,7 +272,7 @@ reference-uncorrupted s c = never-corrupt wakeBySearch s c
 pub run-uncorrupted : (s : State) (cs : List Call) → All WithinWidths cs → Settled s → All (λ o. o .answer ≡ 9 → ⊥) (run tableStep (encode s) cs)
 run-uncorrupted = run-all (λ o. o .answer ≡ 9 → ⊥) (λ s c fit t. reference-uncorrupted s c)
 
--- ROWS OF HISTORIES
+-- MAKING
 make-exactly : (t : List ℕ) → length t ≡ tableLength → makeTables t ≡ unaltered 0 nothingLent (encode initial)
 unfolding makeTables
 make-exactly t e = rw (eq-eqb (length t) tableLength e)
@@ -284,20 +284,3 @@ make-short t n = rw (ne-eqb (length t) tableLength n)
 pub make-either : (t : List ℕ) → (length t ≡ tableLength → makeTables t ≡ unaltered 0 nothingLent (encode initial))
     × ((length t ≡ tableLength → ⊥) → makeTables t ≡ unaltered 9 nothingLent t)
 make-either t = (make-exactly t, make-short t)
-
-abbrev tableEntry : List ℕ → Option Call → Outcome (List ℕ)
-tableEntry t e = maybe e (makeTables t) (tableStep t)
-
-abbrev referenceEntry : State → Option Call → Outcome State
-referenceEntry s e = maybe e (unaltered 0 nothingLent initial) (referenceStep s)
-
-encoded-long : (s : State) → Settled s → length (encode s) ≡ tableLength
-encoded-long s t = encode-length s (t .valid .places) (t .valid .slots)
-
-pub settled-rows : (s : State) (es : List (Option Call)) → All (λ e. maybe e (Unit {0}) WithinWidths) es → Settled s → run tableEntry (encode s) es ≡ map onTables (run referenceEntry s es)
-unfolding run
-settled-rows s [] fit t = refl
-settled-rows s (none ∷ es) fit t = rw (make-exactly (encode s) (encoded-long s t)) (ap (λ (os : List (Outcome (List ℕ))). unaltered 0 nothingLent (encode initial) ∷ os)
-    (settled-rows initial es (fit .1) initial-settled))
-settled-rows s (some c ∷ es) fit t = rw (settled-step s c (fit .0) t) (ap (λ (os : List (Outcome (List ℕ))). onTables (referenceStep s c) ∷ os)
-    (settled-rows ((referenceStep s c) .held) es (fit .1) (step-settled s c (fit .0) t)))

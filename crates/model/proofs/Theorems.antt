@@ -2,18 +2,19 @@
 -- the fresh reckoning); definitions are in specs/. This file holds nothing else; the arguments are in the files beside.
 use mathlib.Core.Path.{_≡_, ap}
 use mathlib.Core.Bool.{true, false, not, cond}
-use mathlib.Core.List.{List, [], _∷_, map}
-use mathlib.Core.Option.{Option, none, some}
+use mathlib.Core.List.{List, [], _∷_, _++_, map}
+use mathlib.Core.Option.{none, some}
 use mathlib.Core.Logic.{_⊎_, _↔_}
-use Prim.Native.Nat.{ℕ, suc, _≤_, _<_}
-use lib.ListN.{length, getD}
+use Prim.Native.Nat.{ℕ, suc, _-_, _≤_, _<_}
+use Prim.Native.String.{String}
+use lib.ListN.{length, getD, set, take}
 use lib.Dec.{eqb}
 use Rattle.model.specs.Sizes.{objectPlaces, ticketsEnd, never, snapshotBuffer, longestSnapshot}
-use Rattle.model.specs.Basics.{corrupt, maybe, anyOf, member, hasRepeat, All, overwrite}
+use Rattle.model.specs.Basics.{corrupt, anyOf, allOf, member, hasRepeat, All, overwrite}
 use Rattle.model.specs.Objects.{Object, empty, occupied, signaled, cleared}
 use Rattle.model.specs.Waits.{Mode, any, all, Wait, free, waiting, State, initial, objectAt, putAt, attempt}
 use Rattle.model.specs.Waits.{servable, wakeBySearch}
-use Rattle.model.specs.Snapshot.{snapshotText}
+use Rattle.model.specs.Snapshot.{line, snapshotText}
 use Rattle.model.specs.Calls.{wait, cancel, Lent, nothingLent, Call, asks, refusal, waitFaults, timeUp, newWait}
 use Rattle.model.specs.Calls.{Kind, create, newObject, pulseEvent, signal, waitsFull, change, WithinWidths}
 use Rattle.model.specs.Layout.{tableLength, encode, view, validState, validTables}
@@ -22,6 +23,13 @@ use Rattle.model.specs.Steps.{Outcome, unaltered, conditions, firstRefus
 use Rattle.model.specs.Steps.{asRead, tableStep, seen, run, makeTables}
 use Rattle.model.specs.Notions.{refusalNumbers, FirstIs, _isIn_, Quiet, takenBy, touched, Rising, Served, Ended}
 use Rattle.model.specs.Notions.{OneByOne, AllOrNone, LongEnough, wrongObject}
+use Rattle.model.specs.Reading.{good, bad, byRead, numberLine, Lines, readSnapshot}
+use Rattle.model.specs.Restore.{shown, quiet, accepted, refused, restored, byRestored, unread, restoreTables}
+use Rattle.model.specs.Restore.{placed, SameButPlaces, Entry, WithinEntry, tableEntry, referenceEntry}
+use Rattle.model.specs.RestoreTests.{inOrder}
+use Rattle.model.specs.Restore.{reply}
+use Rattle.model.proofs.AcceptanceExamples.{reached, cancelledLate, cancelledEarly}
+use Rattle.model.proofs.Alike.{tables-alike, tables-run-alike, tables-restored, tables-reached}
 use Rattle.model.proofs.History.{initial-settled}
 use Rattle.model.proofs.Literal.{test-lines, lines-test}
 use Rattle.model.proofs.Reports.{rising-once}
@@ -33,8 +41,13 @@ use Rattle.model.proofs.Tables.{tables-objects, tables-stays, tables-fr
 use Rattle.model.proofs.Tables.{tables-pulse, tables-rise, tables-spend, tables-told, tables-all-now}
 use Rattle.model.proofs.Tables.{tables-creates, tables-cancels, tables-sleeps, settled-run}
 use Rattle.model.proofs.Tables.{settled-read, run-quiet}
-use Rattle.model.proofs.Tables.{reference-uncorrupted, run-uncorrupted, make-either, settled-rows}
+use Rattle.model.proofs.Tables.{reference-uncorrupted, run-uncorrupted, make-either}
 use Rattle.model.proofs.Validity.{test-valid, valid-test}
+use Rattle.model.proofs.Placed.{placed-same, same-text}
+use Rattle.model.proofs.ReadExactly.{line-good, line-bad}
+use Rattle.model.proofs.Accepting.{accepted-exactly, accepted-is, accepted-settled, text-same, by-tests}
+use Rattle.model.proofs.Accepting.{bad-offset, else-zero, restore-either, settled-rows}
+use Rattle.model.proofs.Damage.{changed-refused, cut-refused}
 
 -- 0. DEMAND 1. For any cells and any call the answer is one of 0 to 12; at 1, 2, 3, 7, 8, 9, 10 and 12 every cell of
 -- the tables and of what is lent is as before, there is no report, and all other numbers are 0; at 5 and 6 every object
@@ -78,16 +91,16 @@ pub demand-3-from : (s : State) → validState s ≡ true → Quiet s → (cs : 
 demand-3-from s v q cs fit = settled-run s cs fit (record { valid = test-valid s v; quiet = q })
 
 -- 1c. Making, on tables of the right length and whatever their cells, gives newly made tables and answer 0; on others
--- it is 9 and nothing altered. A list of calls with makings (`none`) in it is a row of histories, each begun anew
--- ("Making starts a new history").
+-- it is 9 and nothing altered.
 pub making : (t : List ℕ)
     → (length t ≡ tableLength → makeTables t ≡ unaltered 0 nothingLent (encode initial))
     × ((length t ≡ tableLength → ⊥) → makeTables t ≡ unaltered 9 nothingLent t)
 making t = make-either t
 
-pub rows-of-histories : (es : List (Option Call)) → All (λ e. maybe e (Unit {0}) WithinWidths) es
-    → run (λ t e. maybe e (makeTables t) (tableStep t)) (encode initial) es
-    ≡ map onTables (run (λ s e. maybe e (unaltered 0 nothingLent initial) (referenceStep s)) initial es)
+-- A list of calls with makings and readings in it is a row of histories: each making and each accepted reading begins
+-- one anew, a refused reading is a call that changes nothing, and at every entry all is as with the reference.
+pub rows-of-histories : (es : List Entry) → All WithinEntry es
+    → run tableEntry (encode initial) es ≡ map onTables (run referenceEntry initial es)
 rows-of-histories es fit = settled-rows initial es fit initial-settled
 
 -- 1d. So what a host sees, call by call (`seen`, in which every public contract is stated), is what it would see of the
@@ -231,7 +244,7 @@ pub all-or-none-queued : (t : List ℕ) → validTables t ≡ true → (c : Call
     × ((view ((tableStep t c) .held)) .objects ≡ putAt last (d .clears) (cleared (objectAt last (d .clears))))
 all-or-none-queued t v c fit a = (tables-told t v c fit a) .1
 
--- 8. THE SNAPSHOT. No snapshot of a valid state is longer than 28,425 bytes, so every one fits the least buffer; one
+-- 8. THE SNAPSHOT. No snapshot of a valid state is longer than 28,437 bytes, so every one fits the least buffer; one
 -- has that length.
 pub longest-snapshot : (s : State) → validState s ≡ true
     → (length (snapshotText s) ≤ longestSnapshot) × (length (snapshotText s) ≤ snapshotBuffer)
@@ -252,3 +265,105 @@ pub sleep-only-cancelled : (t : List ℕ) (c : Call) → WithinWidths c → (p :
     → getD ((view t) .waits) p free ≡ waiting w → w .mode ≡ any → w .list ≡ [] → w .alert ≡ 0 → w .timeout ≡ never
     → (c .operation ≡ cancel (w .ticket) → ⊥) → getD ((view ((tableStep t c) .held)) .waits) p free ≡ waiting w
 sleep-only-cancelled t c fit p w = tables-sleeps t c fit p w
+
+-- 10. READING A SNAPSHOT BACK (3/13). "Of the lent tables only the lengths matter, else 9"; an accepted text gives
+-- answer 0 and the tables of its state, whatever their cells were; a refused one 13, its offset, and tables unaltered.
+pub reading : (t text : List ℕ)
+    → (length t ≡ tableLength → restoreTables t text
+    ≡ byRestored (restored text) (λ s. unaltered 0 nothingLent (encode s)) (λ offset. unread offset t))
+    × ((length t ≡ tableLength → ⊥) → restoreTables t text ≡ unaltered 9 nothingLent t)
+reading t text = restore-either t text
+
+-- "The reader accepts exactly the texts that the writer can produce from sound tables in which no queued wait could be
+-- served"; what it makes is that state, objects in their places and waits in the lowest places by ticket.
+pub accepts-exactly : (text : List ℕ) (r : State) → (restored text ≡ accepted r)
+    ↔ ((s : State) × (validState s ≡ true) × Quiet s × (snapshotText s ≡ text) × (r ≡ placed s))
+accepts-exactly text r = accepted-exactly text r
+
+-- So placed, a state differs from what it was at most in which wait places its waits fill.
+pub placed-alike : (s : State) → validState s ≡ true → SameButPlaces s (placed s)
+placed-alike s v = placed-same s (test-valid s v)
+
+-- "writing what was read gives the same bytes"
+pub written-again : (text : List ℕ) (r : State) → restored text ≡ accepted r → snapshotText r ≡ text
+written-again text r e = (accepted-is text r e) .writes
+
+-- "Two sound tables give equal text exactly if they differ at most in which wait places their waits fill"
+pub equal-text-exactly : (a b : State) → validState a ≡ true → validState b ≡ true
+    → (snapshotText a ≡ snapshotText b) ↔ SameButPlaces a b
+equal-text-exactly a b v u =
+    (text-same a b (test-valid a v) (test-valid b u), same-text a b (test-valid a v) (test-valid b u))
+
+-- The offset. Where a line is not as due, the text is what was read well and the rest from that line on, and the offset
+-- is the length of what was read; of any other refused text it is 0.
+pub refused-at-line : (text from : List ℕ) → readSnapshot text ≡ bad from
+    → (front : List ℕ) × (text ≡ front ++ from) × (restored text ≡ refused (length front))
+refused-at-line text from e = bad-offset text from e
+
+pub refused-at-0 : (text : List ℕ) (l : Lines) (rest : List ℕ) (offset : ℕ) → readSnapshot text ≡ good l rest
+    → restored text ≡ refused offset → offset ≡ 0
+refused-at-0 text l rest offset e r = else-zero text l rest offset e r
+
+-- "A picture with one byte changed must never start a pump": it is refused, whatever stands in the byte's place.
+pub one-byte-changed : (s : State) → validState s ≡ true → (i b : ℕ) → i < length (snapshotText s)
+    → (getD (snapshotText s) i 0 ≡ b → ⊥) → (r : State) → restored (set (snapshotText s) i b) ≡ accepted r → ⊥
+one-byte-changed s v i b l n r e = changed-refused s (test-valid s v) i b l n r e
+
+-- So is a picture that was cut off anywhere.
+pub cut-off : (s : State) → validState s ≡ true → (n : ℕ) → n < length (snapshotText s) → (r : State)
+    → restored (take n (snapshotText s)) ≡ accepted r → ⊥
+cut-off s v n l r e = cut-refused s (test-valid s v) n l r e
+
+-- A line reads as n exactly if it is the writer's own line of n, and n is in the key's range; else it is bad where it
+-- begins.
+pub line-exactly : (key : String) (low high : ℕ) → high ≤ never → (text : List ℕ)
+    → ((n : ℕ) (rest : List ℕ)
+    → (numberLine key low high text ≡ good n rest) ↔ ((text ≡ line key n ++ rest) × (low ≤ n) × (n ≤ high)))
+    × ((from : List ℕ) → numberLine key low high text ≡ bad from → from ≡ text)
+line-exactly key low high h text = (line-good key low high h text, λ from e. (line-bad key low high h text from e) .0)
+
+-- The same as the tests that code makes: what the lines show is valid and quiet, handles and tickets rise, the sum is
+-- right, no bytes are left.
+pub restored-by-tests : (text : List ℕ)
+    → restored text ≡ byRead (readSnapshot text) (λ from. refused (length text - length from)) (λ l rest.
+    cond (allOf (validState (shown l) ∷ quiet (shown l) ∷ inOrder l rest ∷ [])) (accepted (shown l)) (refused 0))
+restored-by-tests text = by-tests text
+
+-- "Demand 3's history may then begin at an accepted picture, and its reckoning with what that text shows, so placed";
+-- after every call no queued wait could be served, and answer 9 never occurs. (The frame holds for any cells.)
+pub demand-3-from-text : (text : List ℕ) (r : State) → restored text ≡ accepted r
+    → (cs : List Call) → All WithinWidths cs → run tableStep (encode r) cs ≡ map onTables (run referenceStep r cs)
+demand-3-from-text text r e cs fit = settled-run r cs fit (accepted-settled text r e)
+
+pub always-quiet-from-text : (text : List ℕ) (r : State) → restored text ≡ accepted r
+    → (cs : List Call) → All WithinWidths cs → All (λ o. Quiet (view (o .held))) (run tableStep (encode r) cs)
+always-quiet-from-text text r e cs fit = run-quiet r cs fit (accepted-settled text r e)
+
+pub never-9-from-text : (text : List ℕ) (r : State) → restored text ≡ accepted r
+    → (cs : List Call) → All WithinWidths cs → All (λ o. o .answer ≡ 9 → ⊥) (run tableStep (encode r) cs)
+never-9-from-text text r e cs fit = run-uncorrupted r cs fit (accepted-settled text r e)
+
+-- 11. A RESTORED BOARD ANSWERS AS ONE THAT NEVER STOPPED (3/13). Tables restored from the snapshot of valid tables in
+-- which no wait could be served give the same reply to each call of any list as those that went on: answer, both
+-- numbers, reports, every cell of what is lent.
+pub restored-replies : (t : List ℕ) → validTables t ≡ true → Quiet (view t) → (u : List ℕ) → length u ≡ tableLength
+    → (cs : List Call) → All WithinWidths cs → let r = restoreTables u (snapshotText (view t)) in
+    (r .answer ≡ 0) × (map reply (run tableStep (r .held) cs) ≡ map reply (run tableStep t cs))
+restored-replies t v q u l cs fit = tables-restored t v q u l cs fit
+
+-- So do any two valid tables that differ at most in which wait places their waits fill; after a call they are valid
+-- and differ at most in that again.
+pub same-reply : (t u : List ℕ) → validTables t ≡ true → validTables u ≡ true → SameButPlaces (view t) (view u)
+    → (c : Call) → WithinWidths c → let o = tableStep t c in let p = tableStep u c in
+    (reply o ≡ reply p) × (validTables (o .held) ≡ true) × (validTables (p .held) ≡ true)
+    × SameButPlaces (view (o .held)) (view (p .held))
+same-reply t u v w s c fit = tables-alike t u v w s c fit
+
+pub same-replies : (t u : List ℕ) → validTables t ≡ true → validTables u ≡ true → SameButPlaces (view t) (view u)
+    → (cs : List Call) → All WithinWidths cs → map reply (run tableStep t cs) ≡ map reply (run tableStep u cs)
+same-replies t u v w s cs fit = tables-run-alike t u v w s cs fit
+
+-- Two histories reach such tables, and their cells differ: a wait is cancelled after the next is queued, or before.
+pub places-reached : let t = encode (reached cancelledLate) in let u = encode (reached cancelledEarly) in
+    (validTables t ≡ true) × (validTables u ≡ true) × SameButPlaces (view t) (view u) × (t ≡ u → ⊥)
+places-reached = tables-reached

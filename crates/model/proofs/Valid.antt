@@ -156,19 +156,19 @@ none-waiting f ws h = ap isSome (oldest-is-none f ws h)
 pub waiting-none : (f : Wait → Bool) (ws : List WaitPlace) → anyWaiting f ws ≡ false → (w : Wait) → w isIn ws → f w ≡ false
 waiting-none f ws e = oldest-none f ws (byOption (oldest f ws) (λ n. n) (λ w q. clash (ap isSome q) e))
 
-length-dequeue : (t : ℕ) (ws : List WaitPlace) → length (dequeue t ws) ≡ length ws
+pub length-dequeue : (t : ℕ) (ws : List WaitPlace) → length (dequeue t ws) ≡ length ws
 unfolding dequeue
 length-dequeue t [] = refl
 length-dequeue t (free ∷ ws) = ap suc (length-dequeue t ws)
 length-dequeue t (waiting w ∷ ws) = ap suc (length-dequeue t ws)
 
-length-enqueue : (w : Wait) (ws : List WaitPlace) → length (enqueue w ws) ≡ length ws
+pub length-enqueue : (w : Wait) (ws : List WaitPlace) → length (enqueue w ws) ≡ length ws
 unfolding enqueue
 length-enqueue w [] = refl
 length-enqueue w (free ∷ ws) = refl
 length-enqueue w (waiting v ∷ ws) = ap suc (length-enqueue w ws)
 
-distinct-dequeue : (t : ℕ) (ws : List WaitPlace) → distinctTickets ws ≡ true → distinctTickets (dequeue t ws) ≡ true
+pub distinct-dequeue : (t : ℕ) (ws : List WaitPlace) → distinctTickets ws ≡ true → distinctTickets (dequeue t ws) ≡ true
 unfolding distinctTickets dequeue
 distinct-dequeue t [] e = e
 distinct-dequeue t (free ∷ ws) e = distinct-dequeue t ws e
@@ -178,7 +178,7 @@ distinct-dequeue t (waiting w ∷ ws) e = let r = and-split (not (anyWaiting (λ
     let k : anyWaiting (λ v. eqb (v .ticket) (w .ticket)) (dequeue t ws) ≡ false = none-waiting _ (dequeue t ws) (λ v m. waiting-none (λ v. eqb (v .ticket) (w .ticket)) ws (not-true _ (r .0)) v ((dequeue-in t ws v m) .0)) in
     rw (k, distinct-dequeue t ws (r .1))))
 
-distinct-enqueue : (w : Wait) (ws : List WaitPlace) → ((v : Wait) → v isIn ws → v .ticket ≡ w .ticket → ⊥) → distinctTickets ws ≡ true → distinctTickets (enqueue w ws) ≡ true
+pub distinct-enqueue : (w : Wait) (ws : List WaitPlace) → ((v : Wait) → v isIn ws → v .ticket ≡ w .ticket → ⊥) → distinctTickets ws ≡ true → distinctTickets (enqueue w ws) ≡ true
 unfolding distinctTickets enqueue
 distinct-enqueue w [] h e = e
 distinct-enqueue w (free ∷ ws) h e =

@@ -13,12 +13,12 @@ use Rattle.model.proofs.Logic.{clash, and-split, eqb-same, passed, pass
 use Rattle.model.proofs.Valid.{Valid, none-waiting, waiting-none}
 use Rattle.model.proofs.Cells.{view-encode}
 
-same-refl : (l : List ℕ) → sameCells l l ≡ true
+pub same-refl : (l : List ℕ) → sameCells l l ≡ true
 unfolding sameCells
 same-refl [] = refl
 same-refl (a ∷ l) = rw (eqb-same a, same-refl l)
 
-same-eq : (l r : List ℕ) → sameCells l r ≡ true → l ≡ r
+pub same-eq : (l r : List ℕ) → sameCells l r ≡ true → l ≡ r
 unfolding sameCells
 same-eq [] [] e = refl
 same-eq [] (b ∷ bs) e = clash e refl

@@ -85,7 +85,7 @@ abbrev pub each : Wait → Bool
 each w = true
 
 -- serving takes one wait off allSignaled count
-fewer : (f : Wait → Bool) (w : Wait) (ws : List WaitPlace) → w isIn ws → f w ≡ true → count f (dequeue (w .ticket) ws) < count f ws
+pub fewer : (f : Wait → Bool) (w : Wait) (ws : List WaitPlace) → w isIn ws → f w ≡ true → count f (dequeue (w .ticket) ws) < count f ws
 fewer f w ws m t = rw (count-dequeue f (w .ticket) ws) (count-lt (λ v. not (eqb (v .ticket) (w .ticket)) && f v) f ws
     (λ v k e. (and-split (not (eqb (v .ticket) (w .ticket))) (f v) e) .1) w m (rw (eqb-same (w .ticket))) t)
 

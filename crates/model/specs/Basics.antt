@@ -8,7 +8,7 @@ use lib.Dec.{eqb}
 -- THE ANSWERS (document 01, "What the caller hears")
 pub data Answer : Type 0 where
   done invalid notOwner overflow ownerDead timedOut interrupted : Answer
-  noRoom ticketsSpent corrupt busy queued listShort : Answer
+  noRoom ticketsSpent corrupt busy queued listShort notASnapshot : Answer
 
 abbrev pub number : Answer → ℕ
 number done = 0  -- "the call took effect"
@@ -24,6 +24,7 @@ number corrupt = 9  -- "damaged tables"
 number busy = 10  -- "closing an object that a queued wait names"
 number queued = 11  -- "the wait has a ticket"
 number listShort = 12  -- "wake list under 32 records, or picture buffer under 32,768 bytes"
+number notASnapshot = 13  -- 3/13: "Anything else is new answer 13" (reading a text)
 
 -- what an optional value is worth: b where there is none
 abbrev pub maybe {ℓ κ} : {A : Type ℓ} {B : Type κ} → Option A → B → (A → B) → B

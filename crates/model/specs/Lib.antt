@@ -7,4 +7,7 @@ pub mod Calls
 pub mod Layout
 pub mod Steps
 pub mod Notions
+pub mod Reading
+pub mod Restore
+pub mod RestoreTests
 pub mod ValidCells

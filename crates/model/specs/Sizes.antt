@@ -39,6 +39,6 @@ wakeLength = 3 * waitPlaces
 abbrev pub snapshotBuffer : ℕ
 snapshotBuffer = 32768
 
--- "The longest picture is 28,425 bytes."
+-- "The longest picture is 28,437 bytes."
 abbrev pub longestSnapshot : ℕ
-longestSnapshot = 28425
+longestSnapshot = 28437

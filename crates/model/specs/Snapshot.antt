@@ -6,6 +6,7 @@ use Prim.Native.Char.{code}
 use Prim.Native.String.{String, [] as []ˢ, _∷_ as _∷ˢ_}
 use lib.ListN.{length}
 use lib.Dec.{ltb}
+use Rattle.model.specs.Sizes.{word32}
 use Rattle.model.specs.Basics.{maybe, bit, joined}
 use Rattle.model.specs.Objects.{Object, empty, semaphore, mutex, event, occupied}
 use Rattle.model.specs.Waits.{Mode, any, all, Wait, WaitPlace, State, oldest}
@@ -60,7 +61,16 @@ unfoldable pub queueFrom : ℕ → ℕ → List WaitPlace → List Wait
 queueFrom zero last ws = []
 queueFrom (suc n) last ws = maybe (oldest (λ w. ltb last (w .ticket)) ws) [] (λ w. w ∷ queueFrom n (w .ticket) ws)
 
-unfoldable pub snapshotText : State → List ℕ
-snapshotText s = let q = queueFrom (length (s .waits)) 0 (s .waits) in
+-- every line but the sum
+unfoldable pub snapshotBody : State → List ℕ
+snapshotBody s = let q = queueFrom (length (s .waits)) 0 (s .waits) in
     line "next=" (s .next) ++ (line "objects=" (objectCount (s .objects)) ++ (objectsText 1 (s .objects)
     ++ (line "waits=" (length q) ++ joined waitText q)))
+
+-- 3/13: "a last line `sum=` to the picture: the wrapping 32-bit sum of all bytes before that line"
+unfoldable pub byteSum : List ℕ → ℕ
+byteSum [] = 0
+byteSum (b ∷ bs) = b + byteSum bs
+
+unfoldable pub snapshotText : State → List ℕ
+snapshotText s = snapshotBody s ++ line "sum=" (byteSum (snapshotBody s) % word32)

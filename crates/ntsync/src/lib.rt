@@ -47,3 +47,7 @@ pub use ntsync_fronts::unlock_woken;
 // ---- the snapshot
 pub use ntsync_snapshot::Written;
 pub use ntsync_snapshot::snapshot;
+
+// ---- reading a snapshot back
+pub use ntsync_restore::Restored;
+pub use ntsync_restore::restore;

@@ -6,21 +6,23 @@ ghost use Rattle.model.specs.Calls.{create, close, resetEvent, read, signal, ca
 ghost use Rattle.model.specs.Calls.{post, unlock, kill, setEvent, pulseEvent, aSemaphore, aMutex, anEvent};
 ghost use Rattle.model.specs.Calls.{nothingLent, wakeLent, bufferLent, asks};
 ghost use Rattle.model.specs.Steps.{tableStep, makeTables, seen, sees};
+ghost use Rattle.model.specs.Restore.{restoreTables};
 ghost use Rattle.model.specs.Waits.{any, all};
 use ntsync::Created;
 use ntsync::EventState;
 use ntsync::MutexState;
+use ntsync::Restored;
 use ntsync::SemaphoreState;
 use ntsync::Waited;
 use ntsync::Written;
 use signals::Changed;
 
 // It rises with every change of a signature or of an argument's meaning; the header has the same number.
-pub const VERSION: u32 = 2;
+pub const VERSION: u32 = 3;
 
 #[no_mangle]
 pub extern "C" fn ntsync_version() -> u32
-    ensures { λ r. ⌜ r ≡ 2 ⌝ }
+    ensures { λ r. ⌜ r ≡ 3 ⌝ }
 {
     VERSION
 }
@@ -220,4 +222,12 @@ pub extern "C" fn ntsync_snapshot(tables: &[u64], buffer: &mut [u8]) -> Written
         ≡ sees (r .answer ∷ r .length ∷ 0 ∷ 0 ∷ []) (bufferLent (now (buffer .exit))) (now (tables .entry)) ⌝ }
 {
     ntsync::snapshot(tables, buffer)
+}
+
+#[no_mangle]
+pub extern "C" fn ntsync_restore(tables: &mut [u64], text: &[u8]) -> Restored
+    ensures { λ r. ⌜ seen (restoreTables (now (tables .entry)) (now (text .entry)))
+        ≡ sees (r .answer ∷ r .offset ∷ 0 ∷ 0 ∷ []) nothingLent (now (tables .exit)) ⌝ }
+{
+    ntsync::restore(tables, text)
 }

@@ -9,3 +9,4 @@ pub mod Snapshot
 pub mod Calls
 pub mod Wait
 pub mod Refinement
+pub mod Quiet

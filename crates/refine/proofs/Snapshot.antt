@@ -11,7 +11,7 @@ use lib.ListN.{length, getD}
 use lib.Dec.{eqb, ltb, eqb·suc-zero}
 use borrow.Author.Tests.{ltb-true, ltb-false, eqb-true, eqb-false, not-true, lt-ltb, le-ltb, ne-eqb}
 use Rattle.model.specs.Basics.{bit, joined}
-use Rattle.model.specs.Snapshot.{ascii, line, objectText, objectsText, objectCount, modeText, clockText, waitText, queueFrom, snapshotText}
+use Rattle.model.specs.Snapshot.{ascii, line, objectText, objectsText, objectCount, modeText, clockText, waitText, queueFrom, snapshotBody, snapshotText}
 use Rattle.model.specs.Layout.{modeCell, encode, distinctTickets}
 use Rattle.model.specs.Sizes.{objectPlaces, waitPlaces}
 use Rattle.model.specs.Objects.{Object, empty, semaphore, mutex, event, occupied}
@@ -22,7 +22,7 @@ use Rattle.model.proofs.Logic.{byBool, byOption, and-split, eqb-same}
 use Rattle.model.proofs.Valid.{Valid, waiting-none}
 use Rattle.model.proofs.Queue.{oldest-none, Oldest, oldest-some, count, count-length, count-le}
 use Rattle.model.proofs.Cells.{read-next, byPlace, Holds, holds}
-use Rattle.cells.specs.Snapshot.{fieldsText, objectsTextBelow, objectTotal, waitTotal, listTextBelow, waitLines, waitTextAt, waitsTextFrom, snapshotOf}
+use Rattle.cells.specs.Snapshot.{fieldsText, objectsTextBelow, objectTotal, waitTotal, listTextBelow, waitLines, waitTextAt, waitsTextFrom, bodyOf, snapshotOf}
 use Rattle.cells.specs.Fold.{foldBelow}
 use Rattle.cells.specs.Objects.{fieldsAt}
 use Rattle.cells.specs.Waits.{queuedAt, nextWait}
@@ -173,8 +173,12 @@ module _ (s : State) (g : Valid s) where
       ∙ sym (queue-counted (length (s .waits)) 0 (s .waits) (g .distinct) (count-length (λ v. ltb 0 (v .ticket)) (s .waits)))
 
   -- THE TEXT
-  pub snapshot-of : snapshotOf (encode s) ≡ snapshotText s
-  unfolding snapshotOf snapshotText
-  snapshot-of = let q : waitPlaces ≡ length (s .waits) = sym (g .slots) in
+  body-of : bodyOf (encode s) ≡ snapshotBody s
+  unfolding bodyOf snapshotBody
+  body-of = let q : waitPlaces ≡ length (s .waits) = sym (g .slots) in
       rw (read-next s, object-total s g, objects-text s g, wait-total) (ap (λ (text : List ℕ). line "next=" (s .next) ++ (line "objects=" (objectCount (s .objects)) ++ (objectsText 1 (s .objects)
       ++ (line "waits=" (length (queueFrom (length (s .waits)) 0 (s .waits))) ++ text)))) (ap (λ (n : ℕ). waitsTextFrom n (encode s) 0) q ∙ waits-text (length (s .waits)) 0 s g))
+
+  pub snapshot-of : snapshotOf (encode s) ≡ snapshotText s
+  unfolding snapshotOf snapshotText
+  snapshot-of = rw body-of

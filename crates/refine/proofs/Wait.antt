@@ -20,7 +20,7 @@ use Rattle.model.specs.Waits.{Mode, any, all, Wait, WaitPlace, free, waiting, S
 use Rattle.model.proofs.Logic.{byBool, byOption, fault-free}
 use Rattle.model.proofs.Valid.{Valid}
 use Rattle.cells.specs.Waits.{waitCell, nextTicket, ticketAt, has}
-use Rattle.model.proofs.Cells.{tabulate-is, read-next, write-wait, byPlace, holds, free-cell}
+use Rattle.model.proofs.Cells.{tabulate-is, read-next, write-wait, byPlace, holds, free-cell, Shaped, valid-shaped}
 use Rattle.cells.specs.Calls.{answered, badWait, putHeader, putList, ticketPlace, emptyWait, queueCells, laterCells, waitOnCells}
 use Rattle.cells.specs.Fold.{searchFrom}
 use Rattle.cells.specs.Attempt.{missed, tryList}
@@ -64,7 +64,7 @@ tabulated hs = tabulate-is 0 hs (length hs) (λ k. getD hs k 0) refl (λ i l. re
 abbrev front : Wait → List ℕ
 front w = w .ticket ∷ modeCell (w .mode) ∷ w .owner ∷ w .clock ∷ w .timeout ∷ length (w .list) ∷ w .alert ∷ []
 
-put-front : (t : List ℕ) (p : ℕ) (w : Wait) → putList (putHeader t p (w .ticket) (modeCell (w .mode)) (w .owner) (w .clock) (w .timeout) (length (w .list)) (w .alert)) p (w .list) ≡ sets t (waitCell p) (front w ++ w .list)
+pub put-front : (t : List ℕ) (p : ℕ) (w : Wait) → putList (putHeader t p (w .ticket) (modeCell (w .mode)) (w .owner) (w .clock) (w .timeout) (length (w .list)) (w .alert)) p (w .list) ≡ sets t (waitCell p) (front w ++ w .list)
 unfolding putList putHeader
 put-front t p w =
     let e1 : waitCell p + 1 ≡ suc (waitCell p) = omega arith in let e2 : waitCell p + 2 ≡ suc (suc (waitCell p)) = omega arith in let e3 : waitCell p + 3 ≡ suc (suc (suc (waitCell p))) = omega arith in
@@ -72,7 +72,7 @@ put-front t p w =
     let e6 : waitCell p + 6 ≡ suc (suc (suc (suc (suc (suc (waitCell p)))))) = omega arith in
     fold-stores _ (waitCell p + headerSize) (length (w .list)) (λ k. getD (w .list) k 0) ∙ rw (tabulated (w .list), e1, e2, e3, e4, e5, e6) (sym (sets-more (front w) (w .list) t (waitCell p)))
 
-put-wait : (s : State) (p : ℕ) (w : Wait) → Valid s → p < waitPlaces → getD (s .waits) p free ≡ free → length (w .list) ≤ maxListed
+pub put-wait : (s : State) (p : ℕ) (w : Wait) → Shaped s → p < waitPlaces → getD (s .waits) p free ≡ free → length (w .list) ≤ maxListed
     → sets (encode s) (waitCell p) (front w ++ w .list) ≡ encode (withWaits s (set (s .waits) p (waiting w)))
 unfolding waitCells
 put-wait s p w g l e n =
@@ -105,7 +105,7 @@ search-enqueue w (waiting v ∷ ws) i f e = let a : f i ≡ false = ap f (sym (a
     let b = (search-is f (suc i) (length ws)) .low in let z : searchFrom f (suc i) (length ws) - i ≡ suc (searchFrom f (suc i) (length ws) - suc i) = omega arith in
     rw (a, z) (ap (λ (l : List WaitPlace). waiting v ∷ l) (search-enqueue w ws (suc i) f (λ k l. ap f (suc-add i k ∙ sym (add-suc i k)) ∙ e (suc k) (omega arith))))
 
-next-cell : (s : State) (n : ℕ) → set (encode s) 0 n ≡ encode (withNext s n)
+pub next-cell : (s : State) (n : ℕ) → set (encode s) 0 n ≡ encode (withNext s n)
 unfolding encode
 next-cell s n = refl
 
@@ -140,7 +140,7 @@ module _ (s : State) (g : Valid s) where
       let p : ℕ = emptyWait (encode s) in
       let pw : putList (putHeader (encode s) p (s .next) (modeCell (w .mode)) (w .owner) (w .clock) (w .timeout) (length (w .list)) (w .alert)) p (w .list) ≡ encode (withWaits s (enqueue w (s .waits)))
       = ap (λ (k : ℕ). putList (putHeader (encode s) p k (modeCell (w .mode)) (w .owner) (w .clock) (w .timeout) (length (w .list)) (w .alert)) p (w .list)) (sym t)
-      ∙ put-front (encode s) p w ∙ put-wait s p w g l (empty-free l) n ∙ ap (λ (ws : List WaitPlace). encode (withWaits s ws)) (sym (empty-enqueue w)) in
+      ∙ put-front (encode s) p w ∙ put-wait s p w (valid-shaped s g) l (empty-free l) n ∙ ap (λ (ws : List WaitPlace). encode (withWaits s ws)) (sym (empty-enqueue w)) in
       rw (read-next s, pw, add-one (s .next)) (next-cell (withWaits s (enqueue w (s .waits))) (suc (s .next)))
 
   -- ARGUMENTS

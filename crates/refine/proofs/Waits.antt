@@ -21,7 +21,7 @@ use Rattle.model.proofs.Rules.{due}
 use Rattle.model.proofs.Valid.{Valid, waiting-none, distinct-tickets}
 use Rattle.model.proofs.Queue.{Oldest, oldest-some, oldest-is, oldest-is-none}
 use Rattle.cells.specs.Waits.{waitCell, ticketAt, modeAt, ownerAt, clockAt, timeoutAt, countAt, alertAt, listOf, namesOf, namesAt, clearWait, better, lowest, nextWait}
-use Rattle.model.proofs.Cells.{encode-length, at-in, dequeue-at, write-wait, in-at, byPlace, Holds, holds, free-cell, ticket-is, mode-is, owner-is, clock-is, timeout-is, count-is, alert-is, list-is}
+use Rattle.model.proofs.Cells.{valid-shaped, encode-length, at-in, dequeue-at, write-wait, in-at, byPlace, Holds, holds, free-cell, ticket-is, mode-is, owner-is, clock-is, timeout-is, count-is, alert-is, list-is}
 use Rattle.cells.specs.Calls.{busyAt}
 use Rattle.cells.specs.Fold.{foldBelow, someBelow}
 use Rattle.cells.specs.Walk.{dueAt}
@@ -93,7 +93,7 @@ module _ (s : State) (p : ℕ) (w : Wait) (g : Holds s p w) where
 
 pub free-ticket : (s : State) (p : ℕ) → Valid s → p < waitPlaces → getD (s .waits) p free ≡ free → ticketAt (encode s) p ≡ 0
 unfolding ticketAt
-free-ticket s p g l e = free-cell s p 0 g l e (omega arith)
+free-ticket s p g l e = free-cell s p 0 (valid-shaped s g) l e (omega arith)
 
 pub above-zero : (s : State) (p : ℕ) (w : Wait) → Valid s → getD (s .waits) p free ≡ waiting w → 0 < w .ticket
 above-zero s p w g e = (g .tickets w (at-in (s .waits) p w e)) .0

@@ -1,5 +1,5 @@
 -- What the writer's definitions come to on each way through the code.
-use Prim.Native.Nat.{ℕ, zero, suc, _+_, _-_, _≤_, _<_}
+use Prim.Native.Nat.{ℕ, zero, suc, _+_, _-_, _%_, _≤_, _<_}
 use mathlib.Core.Path.{_≡_, refl, sym, ap, _∙_}
 use mathlib.Core.Bool.{Bool, true, false, cond}
 use mathlib.Core.List.{List, [], _∷_, _++_, append-nil}
@@ -8,19 +8,19 @@ use native.Mathlib.Omega.{arith}
 use native.Mathlib.Nat.{add-zero, le-refl, eq-or-lt-of-le, le-of-suc-le-suc}
 use native.Mathlib.Numerals.{add-one}
 use borrow.Author.Tests.{ne-eqb, lt-ltb, le-ltb}
-use lib.ListN.{length, getD, length-append}
+use lib.ListN.{length, getD, take, length-append}
 use lib.Seq.{sets}
 use lib.Dec.{eqb, ltb}
-use Rattle.model.specs.Snapshot.{ascii, line}
+use Rattle.model.specs.Snapshot.{ascii, line, byteSum}
 use Rattle.cells.specs.Fold.{foldBelow}
 use Rattle.cells.proofs.Fold.{fold-none, fold-more}
 use Rattle.model.specs.Basics.{bit}
 use Rattle.cells.specs.Objects.{Fields, fieldsAt}
-use Rattle.cells.specs.Snapshot.{semaphoreText, mutexText, eventText, fieldsText, objectsTextBelow, objectTotal, waitTotal, listTextBelow, modeTextOf, clockTextOf, waitLines, waitTextAt, waitsTextFrom, snapshotOf}
+use Rattle.cells.specs.Snapshot.{semaphoreText, mutexText, eventText, fieldsText, objectsTextBelow, objectTotal, waitTotal, listTextBelow, modeTextOf, clockTextOf, waitLines, waitTextAt, waitsTextFrom, bodyOf, snapshotOf}
 use Rattle.cells.specs.Waits.{nextTicket, ticketAt, modeAt, ownerAt, clockAt, timeoutAt, alertAt, listOf, nextWait}
-use Rattle.model.specs.Sizes.{objectPlaces, waitPlaces}
+use Rattle.model.specs.Sizes.{objectPlaces, waitPlaces, word32}
 use Rattle.decimal.specs.Text.{Room, Wrote}
-use Rattle.decimal.proofs.Laws.{first-room, then-room, then-wrote}
+use Rattle.decimal.proofs.Laws.{first-room, then-room, then-wrote, front-is, front-room}
 
 -- nothing written
 pub wrote-none : (buf : List ℕ) (at : ℕ) → Wrote buf at [] at buf
@@ -155,6 +155,28 @@ module _ (t : List ℕ) (turn last : ℕ) where
 
 -- the whole from what was counted
 pub snapshot-lines : (t : List ℕ) {next objects waits : ℕ} → next ≡ nextTicket t → objects ≡ objectTotal t → waits ≡ waitTotal t
-    → line "next=" next ++ (line "objects=" objects ++ (objectsTextBelow t objectPlaces ++ (line "waits=" waits ++ waitsTextFrom waitPlaces t 0))) ≡ snapshotOf t
-unfolding snapshotOf
+    → line "next=" next ++ (line "objects=" objects ++ (objectsTextBelow t objectPlaces ++ (line "waits=" waits ++ waitsTextFrom waitPlaces t 0))) ≡ bodyOf t
+unfolding bodyOf
 snapshot-lines t a b c = rw (a, b, c)
+
+-- the sum of what was written, then its line
+module _ (buf t : List ℕ) (r : ℕ) (next : List ℕ) (room : Room buf 0 (snapshotOf t)) where
+  pub body-room : Room buf 0 (bodyOf t)
+  unfolding snapshotOf
+  body-room = first-room buf 0 (bodyOf t) (line "sum=" (byteSum (bodyOf t) % word32)) room
+
+  module _ (w : Wrote buf 0 (bodyOf t) r next) where
+    pub summed-room : r ≤ length next
+    summed-room = front-room buf (bodyOf t) r next body-room w
+
+    module _ {sum : ℕ} (e : sum ≡ byteSum (take r next) % word32) where
+      pub sum-is : sum ≡ byteSum (bodyOf t) % word32
+      sum-is = e ∙ ap (λ (x : List ℕ). byteSum x % word32) (front-is buf (bodyOf t) r next body-room w)
+
+      pub sum-room : Room next r (line "sum=" sum)
+      unfolding snapshotOf
+      sum-room = rw sum-is (then-room buf 0 (bodyOf t) (line "sum=" (byteSum (bodyOf t) % word32)) w room)
+
+      pub sum-wrote : {last : ℕ} {end : List ℕ} → Wrote next r (line "sum=" sum) last end → Wrote buf 0 (snapshotOf t) last end
+      unfolding snapshotOf
+      sum-wrote v = then-wrote buf 0 (bodyOf t) (line "sum=" (byteSum (bodyOf t) % word32)) w (rw sum-is at v)

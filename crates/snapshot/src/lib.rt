@@ -9,7 +9,7 @@ ghost use Rattle.model.specs.Sizes.{objectPlaces, waitPlaces};
 ghost use Rattle.model.specs.Layout.{tableLength};
 ghost use Rattle.model.specs.Basics.{bit};
 ghost use Rattle.model.specs.Snapshot.{line};
-ghost use Rattle.cells.specs.Snapshot.{semaphoreText, mutexText, eventText, fieldsText, objectsTextBelow, objectTotal, waitTotal, modeTextOf, clockTextOf, listTextBelow, waitLines, waitTextAt, waitsTextFrom, snapshotOf};
+ghost use Rattle.cells.specs.Snapshot.{semaphoreText, mutexText, eventText, fieldsText, objectsTextBelow, objectTotal, waitTotal, modeTextOf, clockTextOf, listTextBelow, waitLines, waitTextAt, waitsTextFrom, bodyOf, snapshotOf};
 ghost use Rattle.decimal.specs.Text.{Room, Wrote};
 ghost use Rattle.kinds.specs.Values.{cellsOf};
 use decimal::put_line;
@@ -225,10 +225,10 @@ fn put_waits(buf: &mut [u8], at: usize, t: &[u64]) -> usize
     end
 }
 
-// The whole text, from the buffer's front on; its length.
-pub fn write(buf: &mut [u8], t: &[u64]) -> usize
-    requires { ⌜ (length (now t) ≡ tableLength) × Room (now buf) 0 (snapshotOf (now t)) ⌝ }
-    ensures { λ r. ⌜ Wrote (now (buf .entry)) 0 (snapshotOf (now (t .entry))) r (now (buf .exit)) ⌝ }
+// All lines but the sum, from the buffer's front on; their length.
+fn write_body(buf: &mut [u8], t: &[u64]) -> usize
+    requires { ⌜ (length (now t) ≡ tableLength) × Room (now buf) 0 (bodyOf (now t)) ⌝ }
+    ensures { λ r. ⌜ Wrote (now (buf .entry)) 0 (bodyOf (now (t .entry))) r (now (buf .exit)) ⌝ }
 {
     let next = tables::next_ticket(t);
     let objects = object_total(t);
@@ -238,4 +238,20 @@ pub fn write(buf: &mut [u8], t: &[u64]) -> usize
     let c = put_objects(buf, b, t);
     let d = put_line(buf, c, b"waits=", waits);
     put_waits(buf, d, t)
+}
+
+fn wide(sum: u32) -> u64
+    ensures { λ r. ⌜ r ≡ sum ⌝ }
+{
+    sum as u64
+}
+
+// The whole text, from the buffer's front on; its length.
+pub fn write(buf: &mut [u8], t: &[u64]) -> usize
+    requires { ⌜ (length (now t) ≡ tableLength) × Room (now buf) 0 (snapshotOf (now t)) ⌝ }
+    ensures { λ r. ⌜ Wrote (now (buf .entry)) 0 (snapshotOf (now (t .entry))) r (now (buf .exit)) ⌝ }
+{
+    let end = write_body(buf, t);
+    let sum = wide(byte_sum::byte_sum(&buf[..end]));
+    put_line(buf, end, b"sum=", sum)
 }

@@ -5,7 +5,7 @@ ghost use lib.ListN.{length, getD, take};
 ghost use Rattle.model.specs.Sizes.{objectPlaces, waitPlaces, maxListed, word64};
 ghost use Rattle.model.specs.Layout.{objectSize, headerSize, waitSize, waitsBase, tableLength, inWait};
 ghost use Rattle.cells.specs.Objects.{fieldsAt, putFields, isHandle, named, store};
-ghost use Rattle.cells.specs.Waits.{nextTicket, ticketAt, modeAt, ownerAt, clockAt, timeoutAt, countAt, alertAt, listOf, namesOf, has, namesAt, clearWait};
+ghost use Rattle.cells.specs.Waits.{nextTicket, putNext, ticketAt, modeAt, ownerAt, clockAt, timeoutAt, countAt, alertAt, listOf, namesOf, has, namesAt, clearWait};
 ghost use Rattle.cells.specs.Calls.{emptyObject, ticketPlace, madeCells, putHeader, putList, queueCells};
 ghost use Rattle.cells.specs.Fold.{orBelow, cellFrom};
 ghost use Rattle.cells.specs.Validity.{unusedZero, validFree};
@@ -111,6 +111,13 @@ pub fn next_ticket(t: &[u64]) -> u64
     ensures { λ r. ⌜ r ≡ nextTicket (now (t .entry)) ⌝ }
 {
     t[0]
+}
+
+pub fn put_next(t: &mut [u64], next: u64)
+    requires { ⌜ length (now t) ≡ tableLength ⌝ }
+    ensures { λ _. ⌜ now (t .exit) ≡ putNext (now (t .entry)) next ⌝ }
+{
+    t[0] = next;
 }
 
 // Cell j of a wait place.
@@ -280,7 +287,7 @@ pub fn clear_wait(t: &mut [u64], p: usize)
 
 // ---- queuing
 
-fn put_header(
+pub fn put_header(
     t: &mut [u64],
     p: usize,
     ticket: u64,
@@ -304,7 +311,7 @@ fn put_header(
     t[at + 6] = alert;
 }
 
-fn put_list(t: &mut [u64], p: usize, list: &[u64])
+pub fn put_list(t: &mut [u64], p: usize, list: &[u64])
     requires { ⌜ (p < waitPlaces) × (length (now t) ≡ tableLength) × (length (now list) ≤ maxListed) ⌝ }
     ensures { λ _. ⌜ now (t .exit) ≡ putList (now (t .entry)) p (now (list .entry)) ⌝ }
 {
@@ -381,7 +388,7 @@ pub fn free_zero(t: &[u64], p: usize) -> bool
     bits_of(t, WAITS_BASE + WAIT_SIZE * p, WAIT_SIZE) == 0
 }
 
-// ---- making
+// ---- making and copying
 
 // Newly made tables: next ticket 1, all else zero.
 pub fn make(t: &mut [u64])
@@ -394,6 +401,17 @@ pub fn make(t: &mut [u64])
         i += 1;
     }
     t[0] = 1;
+}
+
+pub fn copy(to: &mut [u64], from: &[u64])
+    requires { ⌜ (length (now to) ≡ tableLength) × (length (now from) ≡ tableLength) ⌝ }
+    ensures { λ _. ⌜ now (to .exit) ≡ now (from .entry) ⌝ }
+{
+    let mut i: usize = 0;
+    while i < TABLE_LENGTH {
+        to[i] = from[i];
+        i += 1;
+    }
 }
 
 // ---- the sizes, tied to the numbers of the meaning

@@ -1,4 +1,4 @@
-//! A host in one file: its own memory for the tables, a clock, tasks that wait, and what they must be told.
+//! A host in one file: its own memory for the tables, a clock, tasks that wait, what they must be told, and a power cut.
 //! `cargo run --example host` prints the story; the test below compares it.
 
 use ntsync::{
@@ -92,6 +92,14 @@ impl Host<'_> {
         }
         Ok(())
     }
+
+    /// The power was cut, and a snapshot is all that is left of the tables. Which task has which ticket is stored beside it.
+    fn start_again(&mut self, saved: &str) -> Result<(), Refusal> {
+        self.tables.init();
+        self.tables.restore_in_place(saved)?;
+        self.tell(&format!("restored from {} lines", saved.lines().count()));
+        Ok(())
+    }
 }
 
 fn story() -> Result<String, Refusal> {
@@ -108,16 +116,18 @@ fn story() -> Result<String, Refusal> {
     host.ask(&[jobs], WRITER, Deadline::NEVER)?;
     host.bury(WRITER, &[log])?;
     host.ask(&[jobs], WORKER, Deadline(50))?;
+
+    let mut buffer = vec![0; SNAPSHOT_BYTES];
+    let saved = host.tables.snapshot(&mut buffer)?;
+    if let Err(refused) = Tables::restore(saved.replace("kind=mutex", "kind=mutes")) {
+        host.tell(&format!("a damaged copy: {refused}"));
+    }
+    host.start_again(saved)?;
+
     host.advance(Now(50))?;
     if let Err(refusal) = host.tables.unlock(log, WRITER, &mut host.wake) {
         host.tell(&format!("refused: {refusal}"));
     }
-
-    // Saved and brought back, the cells are the same tables.
-    let saved = *host.tables.cells();
-    let mut buffer = vec![0; SNAPSHOT_BYTES];
-    let lines = Tables::view(&saved).snapshot(&mut buffer)?.lines().count();
-    host.tell(&format!("saved: a snapshot has {lines} lines"));
     Ok(host.story)
 }
 
@@ -130,7 +140,8 @@ fn main() -> Result<(), Refusal> {
 fn the_story_is_told() {
     let expected = "task 1 waits under ticket 1\ntask 1 goes on with object 0\ntask 2 goes on with object 0\n\
         task 3 waits under ticket 2\ntask 2 waits under ticket 3\ntask 2 dies\ntask 3 repairs what object 0 guards\n\
-        task 1 waits under ticket 4\ntask 1 ran out of time\nrefused: that owner does not hold the mutex\n\
-        saved: a snapshot has 12 lines\n";
+        task 1 waits under ticket 4\n\
+        a damaged copy: the text is no snapshot: the line at byte 59 is not as due there\nrestored from 21 lines\n\
+        task 1 ran out of time\nrefused: that owner does not hold the mutex\n";
     assert_eq!(story().as_deref(), Ok(expected));
 }

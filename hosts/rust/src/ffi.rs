@@ -1,7 +1,7 @@
 //! The functions of libntsync.a as include/ntsync.h declares them; hosts/abi/check compares the two.
 
 /// Rises with every change of a signature or of an argument's meaning.
-pub const VERSION: u32 = 2;
+pub const VERSION: u32 = 3;
 /// Cells of the tables.
 pub const CELLS: usize = 2785;
 /// Objects at most; handles are 1 to 128.
@@ -37,6 +37,7 @@ pub const CORRUPT: u32 = 9;
 pub const BUSY: u32 = 10;
 pub const QUEUED: u32 = 11;
 pub const LIST_SHORT: u32 = 12;
+pub const NOT_A_SNAPSHOT: u32 = 13;
 
 #[repr(C)]
 pub struct Created {
@@ -85,6 +86,12 @@ pub struct Written {
     pub length: u32,
 }
 
+#[repr(C)]
+pub struct Restored {
+    pub answer: u32,
+    pub offset: u64,
+}
+
 #[rustfmt::skip] // one declaration a line, as in the header's page
 unsafe extern "C" {
     pub fn ntsync_version() -> u32;
@@ -107,4 +114,5 @@ unsafe extern "C" {
     pub fn ntsync_expire(tables: *mut u64, cells: usize, wake: *mut u64, wake_cells: usize, clock: u32, time: u64) -> Changed;
     pub fn ntsync_cancel(tables: *mut u64, cells: usize, ticket: u64) -> u32;
     pub fn ntsync_snapshot(tables: *const u64, cells: usize, buffer: *mut u8, bytes: usize) -> Written;
+    pub fn ntsync_restore(tables: *mut u64, cells: usize, text: *const u8, bytes: usize) -> Restored;
 }

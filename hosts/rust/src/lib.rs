@@ -23,9 +23,14 @@ mod tests;
 #[doc = include_str!("../../../README.md")]
 struct Readme;
 
+/// The program of the how-to about saving, run as a documentation test.
+#[cfg(doctest)]
+#[doc = include_str!("../../../docs/howto/saving.md")]
+struct Saving;
+
 pub use ffi::{CELLS, MAX_LISTED, OBJECT_PLACES, SNAPSHOT_BYTES, VERSION, WAIT_PLACES};
 pub use numbers::{Clock, Deadline, Handle, Now, Owner, Ticket};
-pub use refusal::Refusal;
+pub use refusal::{Refusal, Refused};
 pub use results::{Changed, EventState, MutexState, Outcome, SemState, Waited, WakeList, Woken, WokenIter, WokenWaits};
 pub use tables::Tables;
 pub use wait::Wait;

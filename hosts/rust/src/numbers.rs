@@ -27,7 +27,8 @@ numbers! {
     /// Who may hold a mutex: the host's own number for a task, not 0.
     Owner(u32);
 
-    /// A queued wait. It is not given again until [`Tables::init`](crate::Tables::init).
+    /// A queued wait. It is not given again until [`Tables::init`](crate::Tables::init), or until a snapshot from before it
+    /// is restored.
     #[must_use = "a wait whose ticket is lost can be neither cancelled nor told to its task"]
     Ticket(u64);
 

@@ -51,7 +51,7 @@ impl Tables {
     /// [`Refusal::Corrupt`].
     ///
     /// ```
-    /// assert_eq!(ntsync::Tables::new().snapshot_string()?, "next=1\nobjects=0\nwaits=0\n");
+    /// assert_eq!(ntsync::Tables::new().snapshot_string()?, "next=1\nobjects=0\nwaits=0\nsum=2103\n");
     /// # Ok::<(), ntsync::Refusal>(())
     /// ```
     pub fn snapshot_string(&self) -> Result<String, Refusal> {

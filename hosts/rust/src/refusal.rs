@@ -32,13 +32,15 @@ pub enum Refusal {
     Busy = ffi::BUSY,
     /// The snapshot's buffer is too short.
     ListShort = ffi::LIST_SHORT,
+    /// The text is no snapshot; [`Refused`] has the offset with it.
+    NotASnapshot = ffi::NOT_A_SNAPSHOT,
 }
 
 impl Refusal {
     /// Every refusal, by number.
-    pub(crate) const ALL: [Refusal; 8] = {
-        use Refusal::{Busy, Corrupt, Invalid, ListShort, NoRoom, NotOwner, Overflow, TicketsSpent};
-        [Invalid, NotOwner, Overflow, NoRoom, TicketsSpent, Corrupt, Busy, ListShort]
+    pub(crate) const ALL: [Refusal; 9] = {
+        use Refusal::{Busy, Corrupt, Invalid, ListShort, NoRoom, NotASnapshot, NotOwner, Overflow, TicketsSpent};
+        [Invalid, NotOwner, Overflow, NoRoom, TicketsSpent, Corrupt, Busy, ListShort, NotASnapshot]
     };
 
     /// The answer's number in include/ntsync.h.
@@ -73,11 +75,44 @@ impl fmt::Display for Refusal {
             Refusal::Corrupt => "the tables are damaged, and must be restored or made again",
             Refusal::Busy => "a queued wait names the object",
             Refusal::ListShort => "the buffer is too short",
+            Refusal::NotASnapshot => "the text is no snapshot",
         })
     }
 }
 
 impl Error for Refusal {}
+
+/// Why a text was not read back by [`Tables::restore`](crate::Tables::restore): it is no snapshot.
+///
+/// ```
+/// use ntsync::{Refused, Tables};
+/// let refused = Tables::restore("next=1\nobjects=many\n").unwrap_err();
+/// assert_eq!(refused, Refused { offset: 7 });
+/// assert_eq!(refused.to_string(), "the text is no snapshot: the line at byte 7 is not as due there");
+/// ```
+#[derive(Clone, Copy, Debug, PartialEq, Eq, Hash)]
+pub struct Refused {
+    /// Where the first line begins that is not as due there; the text's length if it ends where a line is due. It is 0 also
+    /// if every line is as due and the whole is wrong: its sum, its order, the state that it shows, or bytes behind it.
+    pub offset: usize,
+}
+
+impl fmt::Display for Refused {
+    fn fmt(&self, f: &mut fmt::Formatter<'_>) -> fmt::Result {
+        match self.offset {
+            0 => write!(f, "{}: its first line, its sum, its order or its state is wrong", Refusal::from(*self)),
+            offset => write!(f, "{}: the line at byte {offset} is not as due there", Refusal::from(*self)),
+        }
+    }
+}
+
+impl Error for Refused {}
+
+impl From<Refused> for Refusal {
+    fn from(_: Refused) -> Refusal {
+        Refusal::NotASnapshot
+    }
+}
 
 /// The refusal that a call answered. Answers of success were looked at before, and the version was compared.
 pub(crate) fn refused(answer: u32) -> Refusal {

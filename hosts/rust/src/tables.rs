@@ -3,7 +3,7 @@
 use crate::ffi::{self, CELLS};
 use crate::numbers::{Clock, Handle, Now, Owner, Ticket};
 use crate::refusal::{done, refused};
-use crate::{Changed, EventState, MutexState, Outcome, Refusal, SemState, Wait, Waited, WakeList, WokenWaits};
+use crate::{Changed, EventState, MutexState, Outcome, Refusal, Refused, SemState, Wait, Waited, WakeList, WokenWaits};
 use core::{fmt, ptr, str};
 
 /// The tables of one NT instance: [`CELLS`] cells and nothing else, wherever they lie.
@@ -53,7 +53,7 @@ impl Tables {
     ///
     /// ```
     /// let tables = ntsync::Tables::new();
-    /// assert_eq!(format!("{tables:?}"), "Tables { next=1 objects=0 waits=0 }");
+    /// assert_eq!(format!("{tables:?}"), "Tables { next=1 objects=0 waits=0 sum=2103 }");
     /// ```
     #[must_use]
     pub fn new() -> Tables {
@@ -151,7 +151,8 @@ impl Tables {
         debug_assert_eq!(answer, ffi::DONE, "only another number of cells is refused");
     }
 
-    /// Writes the tables as text, lines `key=value`, to the front of the buffer, and hands out that front.
+    /// Writes the tables as text, lines `key=value`, to the front of the buffer, and hands out that front. Its last line is
+    /// the sum of all bytes before it.
     ///
     /// # Errors
     ///
@@ -163,7 +164,7 @@ impl Tables {
     /// let mut tables = Tables::new();
     /// let _ = tables.create_sem(1, 2)?;
     /// let text = tables.snapshot(&mut buffer)?;
-    /// assert_eq!(text, "next=1\nobjects=1\nhandle=1\nkind=sem\ncount=1\nmax=2\nwaits=0\n");
+    /// assert_eq!(text, "next=1\nobjects=1\nhandle=1\nkind=sem\ncount=1\nmax=2\nwaits=0\nsum=4782\n");
     /// assert_eq!(tables.snapshot(&mut buffer[1..]), Err(Refusal::ListShort));
     /// # Ok::<(), Refusal>(())
     /// ```
@@ -172,6 +173,67 @@ impl Tables {
         let r = unsafe { ffi::ntsync_snapshot(self.cells.as_ptr(), CELLS, buffer.as_mut_ptr(), buffer.len()) };
         done(r.answer)?;
         Ok(text(&buffer[..r.length as usize]))
+    }
+
+    /// The tables that a snapshot shows: the objects under their handles, the queued waits under their tickets. A snapshot
+    /// of them is the same text. It is all that a host needs of the old tables after a power cut. Reading takes some 22 KiB
+    /// of the stack beside the tables handed back.
+    ///
+    /// # Errors
+    ///
+    /// [`Refused`] for any text that [`Tables::snapshot`] can't have written, as one with a byte changed or cut off.
+    ///
+    /// # Panics
+    ///
+    /// If the linked archive has another version than this crate.
+    ///
+    /// ```
+    /// use ntsync::{Outcome, Owner, Refusal, Refused, Tables, Wait, Waited};
+    /// let mut tables = Tables::new();
+    /// let event = tables.create_event(false, false)?;
+    /// let Waited::Queued(ticket) = tables.wait_any(Wait::new(&[event], Owner(7)))? else { panic!() };
+    /// let saved = tables.snapshot_string()?;
+    /// drop(tables);
+    ///
+    /// let mut tables = Tables::restore(&saved)?;
+    /// assert_eq!(tables.cancel(ticket), Ok(Outcome::Interrupted));
+    ///
+    /// let damaged = saved.replace("kind=event", "kind=evens");
+    /// assert_eq!(Tables::restore(damaged), Err(Refused { offset: saved.find("kind=").unwrap() }));
+    /// # Ok::<(), Refusal>(())
+    /// ```
+    pub fn restore(text: impl AsRef<[u8]>) -> Result<Tables, Refused> {
+        compare_versions();
+        let mut tables = Tables { cells: [0; CELLS] };
+        tables.restore_in_place(text).map(|()| tables)
+    }
+
+    /// [`Tables::restore`] over the cells of these tables, whatever they held; a refusal leaves them as they are. As with
+    /// [`Tables::init`], no call will name waits that were queued in them.
+    ///
+    /// # Errors
+    ///
+    /// As for [`Tables::restore`].
+    ///
+    /// ```
+    /// use ntsync::{CELLS, Refused, Tables};
+    /// let saved = Tables::new().snapshot_string()?;
+    /// let mut memory = [7; CELLS];
+    /// assert_eq!(Tables::over(&mut memory).restore_in_place("next=1\n"), Err(Refused { offset: 7 }));
+    /// assert_eq!(memory, [7; CELLS]);
+    /// Tables::over(&mut memory).restore_in_place(saved)?;
+    /// assert_eq!(*Tables::view(&memory), Tables::new());
+    /// # Ok::<(), ntsync::Refusal>(())
+    /// ```
+    pub fn restore_in_place(&mut self, text: impl AsRef<[u8]>) -> Result<(), Refused> {
+        let (cells, text) = (self.cells.as_mut_ptr(), text.as_ref());
+        // SAFETY: cells and text are borrowed, apart, and passed with their lengths; a slice's pointer is not null.
+        let r = unsafe { ffi::ntsync_restore(cells, CELLS, text.as_ptr(), text.len()) };
+        match r.answer {
+            ffi::DONE => Ok(()),
+            ffi::NOT_A_SNAPSHOT => Err(Refused { offset: r.offset as usize }),
+            other => unreachable!("answer {other} of a library of this version"),
+        }
     }
 }
 

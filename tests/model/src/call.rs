@@ -2,6 +2,7 @@
 
 use crate::Mode;
 
+/// `Restore` (3/13) is no call of document 01: if its text is accepted, a new history begins with what that shows.
 #[derive(Clone, PartialEq, Eq, Debug)]
 pub enum Call {
     Sem { count: u32, max: u32 },
@@ -21,6 +22,7 @@ pub enum Call {
     Expire { clock: u32, time: u64, wake: usize },
     Cancel { ticket: u64 },
     Picture { bytes: usize },
+    Restore { text: Vec<u8> },
 }
 
 impl Call {
@@ -50,10 +52,18 @@ impl Call {
         }
     }
 
+    /// The text that is read back; empty for other calls.
+    pub fn text(&self) -> &[u8] {
+        match self {
+            Call::Restore { text } => text,
+            _ => &[],
+        }
+    }
+
     /// The one handle that a call other than a wait takes.
     pub fn handle(&self) -> Option<u32> {
         match self {
-            Call::Wait { .. } => None,
+            Call::Wait { .. } | Call::Restore { .. } => None,
             other => other.clone().handle_mut().copied(),
         }
     }
@@ -84,7 +94,7 @@ pub struct Report {
 }
 
 /// The answer and the numbers with it, in the order of the C struct after `answer`:
-/// create: handle; reads: the two values; changes: previous, woken; waits: index, ticket; picture: length.
+/// create: handle; reads: the two values; changes: previous, woken; waits: index, ticket; picture: length; restore: offset.
 #[derive(Clone, PartialEq, Eq, Debug, Default)]
 pub struct Outcome {
     pub answer: u32,

@@ -1,13 +1,15 @@
 //! The second model: the fresh reckoning of document 01 over ordinary values.
-//! Written from document 01 alone; it shares no code and no layout with the library.
+//! Written from document 01 and its changes alone; it shares no code and no layout with the library.
 
 mod call;
 mod picture;
+mod restore;
 mod state;
 mod step;
 
 pub use call::{Call, Outcome, Report};
-pub use picture::picture;
+pub use picture::{picture, sum_of};
+pub use restore::restore;
 pub use state::{Clock, Mode, Object, State, Wait};
 pub use step::{Model, Slip, Waking};
 
@@ -34,8 +36,10 @@ pub mod answer {
     pub const BUSY: u32 = 10;
     pub const QUEUED: u32 = 11;
     pub const SHORT: u32 = 12;
+    pub const NO_PICTURE: u32 = 13;
 
+    /// Nothing altered.
     pub fn is_refusal(answer: u32) -> bool {
-        matches!(answer, 1 | 2 | 3 | 7 | 8 | 9 | 10 | 12)
+        matches!(answer, 1 | 2 | 3 | 7 | 8 | 9 | 10 | 12 | 13)
     }
 }

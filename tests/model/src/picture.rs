@@ -1,4 +1,4 @@
-//! The picture: lines key=value, objects by handle, waits by ticket.
+//! The picture: lines key=value, objects by handle, waits by ticket, and last the sum of all bytes before (3/13).
 //! Written by hand, digits too, because the runner asks for it after every call.
 
 use crate::{Clock, Mode, Object, State, Wait, PICTURE_BYTES};
@@ -17,7 +17,14 @@ pub fn picture(state: &State) -> Vec<u8> {
     for place in state.places_by_ticket() {
         write_wait(&mut text, state.waits[place].as_ref().unwrap());
     }
+    let sum = sum_of(&text);
+    number(&mut text, "sum", sum);
     text
+}
+
+/// "The wrapping 32-bit sum of all bytes."
+pub fn sum_of(bytes: &[u8]) -> u32 {
+    bytes.iter().fold(0, |sum: u32, &byte| sum.wrapping_add(byte.into()))
 }
 
 fn line(text: &mut Vec<u8>, key: &str, value: &[u8]) {

@@ -83,6 +83,11 @@ impl State {
         self.waits.iter().flatten()
     }
 
+    /// The queued waits, lowest ticket first.
+    pub fn by_ticket(&self) -> impl Iterator<Item = &Wait> {
+        self.places_by_ticket().into_iter().filter_map(|place| self.waits[place].as_ref())
+    }
+
     /// Places of the queued waits, lowest ticket first.
     pub fn places_by_ticket(&self) -> Vec<usize> {
         let mut places: Vec<usize> = (0..WAITS).filter(|&p| self.waits[p].is_some()).collect();

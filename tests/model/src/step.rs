@@ -1,6 +1,7 @@
 //! One call, one step: refusals in order; else the bare change; then the waking.
 
 use crate::answer::*;
+use crate::restore::read;
 use crate::{picture, Call, Clock, Mode, Object, Outcome, Report, State, Wait};
 use crate::{LIST, NEVER, OBJECTS, PICTURE_BYTES, TICKETS_SPENT, WAITS, WAKE_CELLS};
 
@@ -30,6 +31,24 @@ pub enum Slip {
     EmptyAnyRefused,
     /// A wait for all over nothing is let pass.
     EmptyAllPasses,
+    /// Of a text that is read back: the sum begins with 1.
+    SumFromOne,
+    /// The offset is that of the line behind the bad one.
+    OffsetLate,
+    /// A number may begin with zeros.
+    LeadingZero,
+    /// Handles may come in any order.
+    HandlesUnordered,
+    /// Tickets may come in any order.
+    TicketsUnordered,
+    /// Bytes may follow the sum.
+    TailAccepted,
+    /// A queued wait may be one that could be served.
+    ServableAccepted,
+    /// The state need not be sound.
+    UnsoundAccepted,
+    /// The waits fill the wait places from the last one down.
+    PlacedFromEnd,
 }
 
 pub struct Model {
@@ -154,7 +173,7 @@ impl Model {
         match *call {
             Call::Sem { count, max } => count > max,
             Call::Mutex { owner, count } => (owner == 0) != (count == 0),
-            Call::Event { .. } | Call::Picture { .. } => false,
+            Call::Event { .. } | Call::Picture { .. } | Call::Restore { .. } => false,
             Call::Close { handle } => self.object(handle).is_none(),
             Call::ReadSem { handle } | Call::Post { handle, .. } => self.semaphore(handle).is_none(),
             Call::ReadMutex { handle } => self.mutex(handle).is_none(),
@@ -222,7 +241,17 @@ impl Model {
                 let text = picture(&self.state);
                 Outcome { answer: DONE, numbers: [text.len() as u64, 0], reports: Vec::new(), text }
             }
+            Call::Restore { ref text } => self.restore(text),
         }
+    }
+
+    /// From a text alone, whatever was held before.
+    fn restore(&mut self, text: &[u8]) -> Outcome {
+        match read(text, self.slip) {
+            Ok(state) => self.state = state,
+            Err(offset) => return Outcome::numbers(NO_PICTURE, offset as u64, 0),
+        }
+        Outcome::answer(DONE)
     }
 
     fn create(&mut self, object: Object) -> Outcome {
@@ -399,7 +428,7 @@ impl Model {
         reports
     }
 
-    fn lowest_servable(&self) -> Option<usize> {
+    pub(crate) fn lowest_servable(&self) -> Option<usize> {
         let wait_at = |place: &usize| self.state.waits[*place].as_ref();
         (0..WAITS)
             .filter(|place| wait_at(place).is_some_and(|wait| self.taking(wait).is_some()))
@@ -434,7 +463,7 @@ fn lent_short(call: &Call) -> bool {
 }
 
 /// A handle twice in a wait for all, the alert counted.
-fn repeats(list: &[u32], alert: u32) -> bool {
+pub(crate) fn repeats(list: &[u32], alert: u32) -> bool {
     let twice = list.iter().enumerate().any(|(i, handle)| list[..i].contains(handle));
     twice || list.contains(&alert)
 }

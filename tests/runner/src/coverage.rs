@@ -1,11 +1,12 @@
 //! What the random histories met. Every line that is required must have occurred.
 
-use second_model::{Call, Mode, Object, Outcome, Report, State, Wait};
+use crate::texts::{lines, mended};
+use second_model::{picture, restore, Call, Mode, Object, Outcome, Report, State, Wait};
 use second_model::{LIST, OBJECTS, TICKETS_SPENT, WAITS, WAKE_CELLS};
 use std::collections::BTreeMap;
 
 /// Every call and every answer that it can have on sound tables: each must have been seen, and no other.
-pub const ANSWERS: [(&str, &[u32]); 18] = [
+pub const ANSWERS: [(&str, &[u32]); 19] = [
     ("sem", &[0, 1, 7]),
     ("mutex", &[0, 1, 7]),
     ("event", &[0, 7]),
@@ -24,9 +25,10 @@ pub const ANSWERS: [(&str, &[u32]); 18] = [
     ("expire", &[0, 1, 12]),
     ("cancel", &[1, 6]),
     ("picture", &[0, 12]),
+    ("restore", &[0, 13]),
 ];
 
-const SITUATIONS: [&str; 79] = [
+const SITUATIONS: [&str; 92] = [
     "queue filled to 32",
     "no room with tickets spent",
     "served with the queue full",
@@ -106,6 +108,19 @@ const SITUATIONS: [&str; 79] = [
     "wrong kind refused",
     "mutex held by another",
     "abandoned mutex has no holder",
+    "restored from its last picture",
+    "restored waits moved to other places",
+    "restored from an older picture, its next ticket lower",
+    "restored with 32 waits",
+    "restored with tickets spent",
+    "restored with an abandoned mutex",
+    "text refused at its first line",
+    "text refused at a later line",
+    "text refused where it ends",
+    "text refused as a whole, its sum wrong",
+    "text refused as a whole, its sum right",
+    "restored wait woken",
+    "restored wait ended by time",
 ];
 
 #[derive(Default)]
@@ -115,6 +130,8 @@ pub struct Coverage {
     pub calls: u64,
     pub histories: u64,
     last_time: [u64; 2],
+    /// Tickets of the waits that the last accepted text of the history had.
+    restored: Vec<u64>,
 }
 
 pub fn call_name(call: &Call) -> &'static str {
@@ -137,6 +154,7 @@ pub fn call_name(call: &Call) -> &'static str {
         Call::Expire { .. } => "expire",
         Call::Cancel { .. } => "cancel",
         Call::Picture { .. } => "picture",
+        Call::Restore { .. } => "restore",
     }
 }
 
@@ -149,6 +167,8 @@ pub struct Before {
     alert_signaled: bool,
     /// Ticket and number of handles of each queued wait, in the order of the places.
     queued: Vec<(u64, usize)>,
+    /// Of a reading: the picture before it.
+    picture: Vec<u8>,
 }
 
 impl Before {
@@ -161,6 +181,7 @@ impl Before {
             abandoned_listed: call.listed().iter().filter(abandoned).count(),
             alert_signaled: matches!(alert, Some(Object::Event { signaled: true, .. })),
             queued: state.queued().map(|wait| (wait.ticket, wait.list.len())).collect(),
+            picture: if let Call::Restore { .. } = call { picture(state) } else { Vec::new() },
         }
     }
 }
@@ -170,6 +191,12 @@ fn has_repeat(list: &[u32]) -> bool {
 }
 
 impl Coverage {
+    /// Another history.
+    pub fn begun(&mut self) {
+        self.histories += 1;
+        self.restored.clear();
+    }
+
     fn met(&mut self, situation: &'static str, holds: bool) {
         if holds {
             *self.situations.entry(situation).or_default() += 1;
@@ -185,6 +212,8 @@ impl Coverage {
                 self.observe_wait(before, call, outcome, after);
             }
             Call::Expire { clock, time, .. } => self.observe_expire(*clock, *time, outcome, after),
+            Call::Restore { text } if outcome.answer == 0 => self.observe_restored(before, text, after),
+            Call::Restore { text } => self.observe_refused(text, outcome.numbers[0] as usize),
             _ => self.observe_object(before, call, outcome, after),
         }
         if call.wake_cells().is_some() {
@@ -369,7 +398,35 @@ impl Coverage {
         );
         self.met("woken with 64 listed", !ended && reports.iter().any(|report| listed(report) == Some(LIST)));
         self.met("list of 0 woken by its alert", !ended && reports.iter().any(|report| listed(report) == Some(0)));
+        let restored = reports.iter().any(|report| self.restored.contains(&report.ticket));
+        self.met("restored wait woken", !ended && restored);
+        self.met("restored wait ended by time", ended && restored);
         self.met("list of 0 ended by time", ended && reports.iter().any(|report| listed(report) == Some(0)));
+    }
+
+    fn observe_restored(&mut self, before: &Before, text: &[u8], after: &State) {
+        let last = text == before.picture;
+        let queued: Vec<u64> = after.queued().map(|wait| wait.ticket).collect();
+        let moved = before.queued.iter().map(|(ticket, _)| ticket).ne(&queued);
+        let abandoned = |object: &Object| matches!(object, Object::Mutex { abandoned: true, .. });
+        self.met("restored from its last picture", last);
+        self.met("restored waits moved to other places", last && moved);
+        self.met("restored from an older picture, its next ticket lower", after.next < before.next);
+        self.met("restored with 32 waits", queued.len() == WAITS);
+        self.met("restored with tickets spent", after.next == TICKETS_SPENT);
+        self.met("restored with an abandoned mutex", after.objects.iter().flatten().any(abandoned));
+        self.restored = queued;
+    }
+
+    fn observe_refused(&mut self, text: &[u8], offset: usize) {
+        let first = lines(text).first().copied().unwrap_or_default();
+        let whole = restore(first) == Err(first.len()) && !first.is_empty();
+        let right = mended(text) == text;
+        self.met("text refused at its first line", offset == 0 && !whole);
+        self.met("text refused at a later line", offset > 0 && offset < text.len());
+        self.met("text refused where it ends", offset > 0 && offset == text.len());
+        self.met("text refused as a whole, its sum wrong", offset == 0 && whole && !right);
+        self.met("text refused as a whole, its sum right", offset == 0 && whole && right);
     }
 
     /// Takes in what another thread met.

@@ -3,6 +3,7 @@
 
 use crate::calls::any;
 use crate::coverage::{call_name, ANSWERS};
+use crate::directed::PICTURE as P1;
 use crate::generate::{Mood, KINDS};
 use crate::layout::{self, Place, LINES};
 use crate::library::{Library, CELLS};
@@ -84,8 +85,10 @@ impl Counts {
         }
     }
 
+    /// Calls but for readings, which look at no cell.
     fn on(&self, damaged: bool) -> u64 {
-        self.calls.iter().filter(|((_, on), _)| *on == damaged).map(|(_, count)| count).sum()
+        let calls = self.calls.iter().filter(|((name, on), _)| *on == damaged && *name != "restore");
+        calls.map(|(_, count)| count).sum()
     }
 
     /// What never occurred, though it must.
@@ -112,10 +115,11 @@ impl Counts {
         let [damaged, sound] = self.tables;
         Ok(format!(
             "{states} states, {damaged} tables damaged and {sound} sound, {} calls answered 9, \
-             {} otherwise ({} beyond histories)",
+             {} otherwise ({} beyond histories), {} readings over them",
             self.on(true),
             self.on(false),
-            self.beyond_histories
+            self.beyond_histories,
+            self.calls.iter().filter(|((name, _), _)| *name == "restore").map(|(_, count)| count).sum::<u64>()
         ))
     }
 }
@@ -296,7 +300,8 @@ impl Damage {
         for call in &calls {
             self.try_call(tables, &read, call)?;
         }
-        self.try_making(tables)
+        self.try_making(tables)?;
+        self.try_reading(tables, read.is_none())
     }
 
     /// Two likely calls, and one that names what the cell belongs to.
@@ -318,6 +323,25 @@ impl Damage {
         } else {
             Err(format!("init: {made} {due:?}"))
         }
+    }
+
+    /// Nor does reading a picture back, accepted or refused.
+    fn try_reading(&mut self, tables: &[u64], damaged: bool) -> Result<(), String> {
+        let mut model = Model::new(None);
+        for text in [P1, &P1[1..]] {
+            let call = Call::Restore { text: text.as_bytes().to_vec() };
+            let (outcome, due) = (self.library.play(&call)?, model.step(&call));
+            *self.counts.calls.entry((call_name(&call), damaged)).or_default() += 1;
+            let differs = match due.answer {
+                answer::DONE => layout::differs(self.library.tables(), &model.state),
+                _ => altered(&self.library, tables),
+            };
+            self.library.tables_mut().copy_from_slice(tables);
+            if outcome != due || differs.is_some() {
+                return Err(format!("{} {differs:?}", heard_text(&call, &outcome)));
+            }
+        }
+        Ok(())
     }
 
     fn try_call(&mut self, tables: &[u64], read: &Option<State>, call: &Call) -> Result<(), String> {

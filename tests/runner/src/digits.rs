@@ -4,6 +4,7 @@
 use crate::calls::{any, mutex, sem};
 use crate::directed::{Case, Done, MAX};
 use crate::random::Random;
+use crate::texts::summed;
 use second_model::{NEVER, WAITS};
 
 /// 0, every power of ten with one below and one above, and the same about the widths' ends.
@@ -22,15 +23,15 @@ pub fn borders_of_64_bits(case: &mut Case) -> Done {
     for n in borders().into_iter().filter(|&n| n > 0) {
         case.bench.make();
         case.queues(any(1, 0, n, &[]), 1)?;
-        case.shows(&format!("next=2\nobjects=0\nwaits=1\n{}", sleep(1, 1, n)))?;
+        case.shows(&summed(&format!("next=2\nobjects=0\nwaits=1\n{}", sleep(1, 1, n))))?;
         case.bench.make();
         case.bench.write_next(n);
-        case.shows(&format!("next={n}\nobjects=0\nwaits=0\n"))?;
+        case.shows(&summed(&format!("next={n}\nobjects=0\nwaits=0\n")))?;
         if n == u64::MAX {
             continue;
         }
         case.queues(any(1, 0, NEVER, &[]), n)?;
-        case.shows(&format!("next={}\nobjects=0\nwaits=1\n{}", n + 1, sleep(n, 1, NEVER)))?;
+        case.shows(&summed(&format!("next={}\nobjects=0\nwaits=1\n{}", n + 1, sleep(n, 1, NEVER))))?;
     }
     Ok(())
 }
@@ -41,7 +42,7 @@ pub fn borders_of_32_bits(case: &mut Case) -> Done {
         case.bench.make();
         case.create(&[sem(n, MAX)])?;
         let first = format!("handle=1\nkind=sem\ncount={n}\nmax={MAX}\n");
-        case.shows(&format!("next=1\nobjects=1\n{first}waits=0\n"))?;
+        case.shows(&summed(&format!("next=1\nobjects=1\n{first}waits=0\n")))?;
         if n == 0 {
             continue;
         }
@@ -50,7 +51,7 @@ pub fn borders_of_32_bits(case: &mut Case) -> Done {
         case.queues(any(n, 0, NEVER, &[]), 1)?;
         let second = format!("handle=2\nkind=sem\ncount=0\nmax={n}\n");
         let third = format!("handle=3\nkind=mutex\nowner={n}\ncount={n}\nabandoned=0\n");
-        case.shows(&format!("next=2\nobjects=3\n{first}{second}{third}waits=1\n{}", sleep(1, n, NEVER)))?;
+        case.shows(&summed(&format!("next=2\nobjects=3\n{first}{second}{third}waits=1\n{}", sleep(1, n, NEVER))))?;
     }
     Ok(())
 }
@@ -66,7 +67,7 @@ pub fn random_numbers(case: &mut Case) -> Done {
             case.queues(any(1, 0, timeout, &[]), ticket)?;
             due += &sleep(ticket, 1, timeout);
         }
-        case.shows(&due)?;
+        case.shows(&summed(&due))?;
     }
     Ok(())
 }

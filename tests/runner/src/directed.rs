@@ -1,11 +1,13 @@
 //! Directed cases: the bench readings of document 01, the rules of each call, the limits, the order of refusals.
-//! Every call is compared with the second model too. What is lent is in `lent.rs`, the picture's numbers in `digits.rs`.
+//! Every call is compared with the second model too. What is lent is in `lent.rs`, the picture's numbers in `digits.rs`,
+//! pictures read back in `reading.rs`.
 
 use crate::calls::{all, any, at_time, event, expire, kill, mutex, post, pulse, sem, set, unlock, with_wake};
 use crate::digits;
 use crate::lent;
 use crate::library;
 use crate::play::Bench;
+use crate::reading;
 use crate::script::{heard_text, step_or_text};
 use second_model::{Call, Mode, Outcome, Report, LIST, NEVER, OBJECTS, PICTURE_BYTES, WAITS, WAKE_CELLS};
 
@@ -19,7 +21,7 @@ pub struct Case {
 pub type Done = Result<(), String>;
 type Test = (&'static str, fn(&mut Case) -> Done);
 
-const TESTS: [Test; 34] = [
+const TESTS: [Test; 48] = [
     ("P1, P2 and the picture", p1_p2),
     ("P3, P4", p3_p4),
     ("P5, P6", p5_p6),
@@ -54,6 +56,20 @@ const TESTS: [Test; 34] = [
     ("wrong kinds", wrong_kinds),
     ("all or none", all_or_none),
     ("whole numbers and flags", numbers),
+    ("P1 and P2 from a text", reading::p1_again),
+    ("places of restored waits", reading::places),
+    ("texts cut short", reading::cut_short),
+    ("sums, and what follows them", reading::sums_and_ends),
+    ("forms of numbers and words", reading::forms),
+    ("order of lines", reading::order_of_lines),
+    ("ranges of an object's keys", reading::ranges_of_objects),
+    ("ranges of a wait's keys", reading::ranges_of_waits),
+    ("the far ends of ranges", reading::far_ends),
+    ("order and soundness of a text", reading::order_and_soundness),
+    ("rules of objects in a text, each alone", reading::objects_alone),
+    ("rules of waits in a text, each alone", reading::waits_alone),
+    ("servable waits in a text", reading::servable),
+    ("readings: lengths first", reading::lengths_first),
 ];
 
 pub fn run() -> Result<String, String> {
@@ -128,9 +144,10 @@ impl Case {
 
 // Bench readings.
 
-const PICTURE: &str =
+/// P1's, document 01's text and its sum line.
+pub const PICTURE: &str =
     "next=2\nobjects=2\nhandle=1\nkind=sem\ncount=1\nmax=2\nhandle=2\nkind=event\nsignaled=0\nmanual=1\n\
-    waits=1\nwait=1\nmode=all\nowner=7\nclock=mono\ntimeout=18446744073709551615\nalert=0\nn=2\nobj=1\nobj=2\n";
+    waits=1\nwait=1\nmode=all\nowner=7\nclock=mono\ntimeout=18446744073709551615\nalert=0\nn=2\nobj=1\nobj=2\nsum=15010\n";
 
 pub fn p1_p2(case: &mut Case) -> Done {
     case.create(&[sem(1, 2), event(0, 1)])?;
@@ -288,7 +305,7 @@ fn lists(case: &mut Case) -> Done {
 }
 
 const SLEEPS: &str = "next=2\nobjects=1\nhandle=1\nkind=event\nsignaled=0\nmanual=0\n\
-    waits=1\nwait=1\nmode=any\nowner=7\nclock=mono\ntimeout=50\nalert=1\nn=0\n";
+    waits=1\nwait=1\nmode=any\nowner=7\nclock=mono\ntimeout=50\nalert=1\nn=0\nsum=10526\n";
 
 /// 1/13: served by its alert, ended by time, or cancelled.
 fn empty_lists(case: &mut Case) -> Done {

@@ -1,9 +1,10 @@
-//! Random histories on library and model.
+//! Random histories on library and model, with readings in them: of pictures of the history, and of changed ones.
 
 use crate::coverage::{Before, Coverage};
 use crate::generate::Mood;
 use crate::play::{Bench, Difference};
 use crate::random::Random;
+use crate::saved::Saved;
 use crate::shrink::{shrunk, Trial};
 use crate::Limits;
 use second_model::{Call, Slip};
@@ -17,7 +18,7 @@ const CALLS: u64 = 300_000;
 /// From so many calls on every situation must have occurred.
 const TELLING_CALLS: u64 = 1_000_000;
 
-/// Calls on newly made tables; `next` other than 1 is written into them first.
+/// Calls on newly made tables, readings among them; `next` other than 1 is written into them first.
 #[derive(Clone, PartialEq, Debug, Default)]
 pub struct History {
     pub next: u64,
@@ -71,7 +72,7 @@ pub fn run(limits: Limits) -> Result<String, String> {
         return Err(format!("never occurred in {} calls: {}", coverage.calls, missing.join("; ")));
     }
     let Coverage { calls, histories, .. } = coverage;
-    Ok(format!("seeds {seeds:?}, {histories} histories, {calls} calls, after each the picture"))
+    Ok(format!("seeds {seeds:?}, {histories} histories, {calls} calls, after each the picture, read back"))
 }
 
 /// Plays histories until so many calls were made, time is up, or a call differs.
@@ -79,7 +80,7 @@ pub fn play_many(mut bench: Bench, seed: u64, calls: u64, end: Option<Instant>) 
     let mut random = Random::new(seed);
     let mut coverage = Coverage::default();
     while coverage.calls < calls && end.is_none_or(|end| Instant::now() < end) {
-        coverage.histories += 1;
+        coverage.begun();
         let failure = play_one(&mut bench, &mut random, &mut coverage);
         if failure.is_some() {
             return (coverage, failure);
@@ -92,8 +93,14 @@ fn play_one(bench: &mut Bench, random: &mut Random, coverage: &mut Coverage) -> 
     let mood = Mood::new(random);
     let mut history = History { next: mood.next, calls: Vec::new() };
     history.begin(bench);
+    let mut saved = Saved::default();
     for at in 0..mood.prelude + mood.calls {
-        let call = if at < mood.prelude { mood.create(random) } else { mood.call(random, &bench.model.state) };
+        let reading = saved.reading(random, &bench.model.state);
+        let call = match reading {
+            Some(text) => Call::Restore { text },
+            None if at < mood.prelude => mood.create(random),
+            None => mood.call(random, &bench.model.state),
+        };
         history.calls.push(call.clone());
         let before = Before::new(&bench.model.state, &call);
         match bench.step(&call) {

@@ -199,6 +199,16 @@ fn read_wait(cells: &[u64]) -> Option<Wait> {
 
 /// The first cell that doesn't hold the state's value.
 pub fn differs(tables: &[u64], state: &State) -> Option<String> {
+    differs_with(tables, state, state.waits.iter().map(Option::as_ref))
+}
+
+/// The same of the state once its waits fill the lowest places by ticket, as a text shows it (3/13).
+pub fn differs_placed(tables: &[u64], state: &State) -> Option<String> {
+    let waits = state.by_ticket().map(Some).chain(std::iter::repeat(None));
+    differs_with(tables, state, waits.take(WAIT_PLACES))
+}
+
+fn differs_with<'a>(tables: &[u64], state: &State, waits: impl Iterator<Item = Option<&'a Wait>>) -> Option<String> {
     if tables[0] != state.next {
         return Some(format!("next ticket: tables {}, model {}", tables[0], state.next));
     }
@@ -208,9 +218,9 @@ pub fn differs(tables: &[u64], state: &State) -> Option<String> {
             return Some(format!("object place {place}: tables {held:?}, model {due:?}"));
         }
     }
-    for (place, wait) in state.waits.iter().enumerate() {
+    for (place, wait) in waits.enumerate() {
         let held = wait_cells(tables, place);
-        if !wait_matches(held, wait.as_ref()) {
+        if !wait_matches(held, wait) {
             return Some(format!("wait place {place}: tables {held:?}, model {wait:?}"));
         }
     }

@@ -4,6 +4,7 @@ use crate::calls::{any, event, expire, kill, mutex, post, pulse, sem, set, unloc
 use crate::directed::{p1_p2, Case, Done, MAX};
 use crate::layout;
 use crate::library::{self, Far, Library, CELLS, MOST_BYTES, MOST_WAKE};
+use crate::reading::EMPTY;
 use crate::script::heard_text;
 use second_model::{answer, Call, Outcome, State, LIST, NEVER, OBJECTS, PICTURE_BYTES, WAITS, WAKE_CELLS};
 
@@ -63,7 +64,7 @@ pub fn longest_picture(case: &mut Case) -> Done {
         case.queues(any(MAX, 128, NEVER, &list), ticket)?;
     }
     let outcome = case.step(&Call::Picture { bytes: PICTURE_BYTES })?;
-    if outcome.numbers != [28_425, 0] {
+    if outcome.numbers != [28_437, 0] {
         return Err(format!("{} bytes", outcome.numbers[0]));
     }
     Ok(())
@@ -83,6 +84,10 @@ pub fn far_lengths(case: &mut Case) -> Done {
         far(case, &any(1, 0, NEVER, &[1]), Far::List, n, Some(Outcome::answer(1)))?;
     }
     far(case, &picture, Far::Buffer, LARGE, None)?;
+    // The front of the long text is a picture, but zeros follow it.
+    let empty = Call::Restore { text: EMPTY.as_bytes().to_vec() };
+    far(case, &empty, Far::Tables, LARGE + CELLS, Some(Outcome::answer(9)))?;
+    far(case, &empty, Far::Text, LARGE + EMPTY.len(), Some(Outcome::answer(13)))?;
     far(case, &with_wake(set(1), LARGE), Far::Wake, LARGE, None)
 }
 
@@ -130,6 +135,7 @@ pub fn header(_: &mut Case) -> Done {
         ("BUSY", 10),
         ("QUEUED", 11),
         ("LIST_SHORT", 12),
+        ("NOT_A_SNAPSHOT", 13),
     ];
     if stated("NEVER") != "UINT64_MAX" {
         return Err(format!("NTSYNC_NEVER is {}", stated("NEVER")));

@@ -25,6 +25,12 @@ struct Waited {
     ticket: u64,
 }
 
+#[repr(C)]
+struct Restored {
+    answer: u32,
+    offset: u64,
+}
+
 /// A 32-bit argument. The platform's C convention leaves open what stands in the upper half of its register or place on
 /// the stack, so something is put there.
 type Word = u64;
@@ -79,6 +85,7 @@ extern "C" {
     fn ntsync_expire(t: *mut u64, c: usize, wake: *mut u64, wake_cells: usize, clock: Word, time: u64) -> Triple;
     fn ntsync_cancel(tables: *mut u64, cells: usize, ticket: u64) -> u32;
     fn ntsync_snapshot(tables: *const u64, cells: usize, buffer: *mut u8, bytes: usize) -> Pair;
+    fn ntsync_restore(tables: *mut u64, cells: usize, text: *const u8, bytes: usize) -> Restored;
 
     fn mmap(at: *mut c_void, length: usize, protection: i32, flags: i32, file: i32, offset: i64) -> *mut c_void;
     fn mprotect(at: *mut c_void, length: usize, protection: i32) -> i32;
@@ -91,6 +98,8 @@ pub const GUARD: usize = 16;
 pub const MOST_WAKE: usize = 160;
 pub const MOST_BYTES: usize = 32_768 + 64;
 const MOST_LISTED: usize = 512;
+/// What stands around a text: a line cut short would be whole with the first byte behind it.
+const TEXT_GUARD: [u8; GUARD] = *b"\n01234\nsum=567\n8";
 
 /// An array to lend, with guards at both ends. Between calls it holds sentinels, but for the tables.
 pub struct Lent<T> {
@@ -132,7 +141,8 @@ impl<T: Copy + PartialEq> Lent<T> {
         Err(format!("element {} of {name} was written, with {filled} due", at as isize - GUARD as isize))
     }
 
-    fn restore(&mut self, filled: usize) {
+    /// Sentinels again.
+    fn refill(&mut self, filled: usize) {
         self.cells[GUARD..GUARD + filled].copy_from_slice(&self.untouched[GUARD..GUARD + filled]);
     }
 }
@@ -145,6 +155,8 @@ pub struct Library {
     pub wake: Lent<u64>,
     pub buffer: Lent<u8>,
     pub list: Lent<u32>,
+    /// The text that a reading takes, between its guards.
+    pub text: Vec<u8>,
     /// Done once, after the given number of calls.
     pub tamper: Option<(usize, Tamper)>,
     /// Whether the arrays are lent in fenced memory, and at which fence.
@@ -161,6 +173,8 @@ struct Lending {
     buffer: *mut u8,
     list: *const u32,
     listed: usize,
+    text: *const u8,
+    bytes: usize,
 }
 
 fn sentinel(cell: usize) -> u64 {
@@ -190,6 +204,7 @@ impl Library {
             wake: Lent::new(MOST_WAKE, sentinel),
             buffer: Lent::new(MOST_BYTES, |i| (i * 31 + 7) as u8),
             list: Lent::new(MOST_LISTED, |i| sentinel(i) as u32),
+            text: Vec::new(),
             tamper: None,
             fence: None,
             ends_at: None,
@@ -208,6 +223,11 @@ impl Library {
 
     pub fn tables_mut(&mut self) -> &mut [u64] {
         self.tables.front_mut(CELLS)
+    }
+
+    /// Whatever a reading must not look at.
+    pub fn fill_with_garbage(&mut self) {
+        self.tables.refill(CELLS);
     }
 
     pub fn init(&mut self, cells: usize) -> Result<u32, String> {
@@ -244,11 +264,14 @@ impl Library {
         let buffer = Fenced::new(self.buffer.front(bytes), fence)?;
         let mut list = Fenced::new(call.listed(), fence)?;
         list.protect()?;
+        let mut text = Fenced::new(call.text(), fence)?;
+        text.protect()?;
         let lending = Lending {
             tables: tables.elements,
             wake: wake.elements,
             buffer: buffer.elements,
             list: list.elements,
+            text: text.elements,
             ..self.lending(call, CELLS)
         };
         let outcome = self.heard(call, &lending);
@@ -272,6 +295,7 @@ impl Library {
             Far::Wake => lending.wake = mapping.hold(self.wake.front(MOST_WAKE)),
             Far::Buffer => lending.buffer = mapping.hold(self.buffer.front(MOST_BYTES)),
             Far::List => (lending.list, lending.listed) = (mapping.hold(call.listed()), length),
+            Far::Text => (lending.text, lending.bytes) = (mapping.hold(call.text()), length),
         }
         let outcome = self.heard(call, &lending);
         match far {
@@ -279,6 +303,7 @@ impl Library {
             Far::Wake => mapping.give_back(self.wake.front_mut(MOST_WAKE)),
             Far::Buffer => mapping.give_back(self.buffer.front_mut(MOST_BYTES)),
             Far::List => mapping.give_back(self.list.front_mut(call.listed().len())),
+            Far::Text => mapping.give_back(&mut self.text[GUARD..][..call.text().len()]),
         }
         self.taken_back(call, outcome).map(Some)
     }
@@ -295,6 +320,8 @@ impl Library {
     fn lending(&mut self, call: &Call, cells: usize) -> Lending {
         let list = call.listed();
         self.list.front_mut(list.len()).copy_from_slice(list);
+        self.text.clear();
+        [&TEXT_GUARD, call.text(), &TEXT_GUARD].iter().for_each(|part| self.text.extend_from_slice(part));
         Lending {
             tables: self.tables.at(),
             cells,
@@ -302,6 +329,8 @@ impl Library {
             buffer: self.buffer.at(),
             list: self.list.at(),
             listed: list.len(),
+            text: self.text[GUARD..].as_ptr(),
+            bytes: call.text().len(),
         }
     }
 
@@ -314,8 +343,16 @@ impl Library {
         if self.list.front(list.len()) != list {
             return Err("the list of handles was written".into());
         }
-        self.list.restore(list.len());
+        self.list.refill(list.len());
+        if !self.text_kept(call.text()) {
+            return Err("the text was written".into());
+        }
         self.taken(call, outcome)
+    }
+
+    fn text_kept(&self, text: &[u8]) -> bool {
+        let (before, rest) = self.text.split_at(GUARD);
+        before == TEXT_GUARD && rest.strip_prefix(text) == Some(&TEXT_GUARD)
     }
 
     /// An error if anything but the tables, `woken` cells of the wake list and `length` bytes was written.
@@ -344,8 +381,8 @@ impl Library {
             outcome.reports.push(Report { ticket: record[0], answer: small(record[1])?, index: small(record[2])? });
         }
         outcome.text = self.buffer.front(length).to_vec();
-        self.wake.restore(woken);
-        self.buffer.restore(length);
+        self.wake.refill(woken);
+        self.buffer.refill(length);
         Ok(outcome)
     }
 }
@@ -357,6 +394,7 @@ pub enum Far {
     Wake,
     Buffer,
     List,
+    Text,
 }
 
 /// Zeros to read, private and not reserved, of which the first can be written.
@@ -479,6 +517,7 @@ unsafe fn heard(call: &Call, lent: &Lending) -> Outcome {
         Call::Expire { clock, time, wake } => triple(ntsync_expire(t, c, w, wake, word(clock), time)),
         Call::Cancel { ticket } => Outcome::answer(ntsync_cancel(t, c, ticket)),
         Call::Picture { bytes } => pair(ntsync_snapshot(t, c, lent.buffer, bytes)),
+        Call::Restore { .. } => restored(ntsync_restore(t, c, lent.text, lent.bytes)),
     }
 }
 
@@ -495,6 +534,10 @@ fn pair(heard: Pair) -> Outcome {
 
 fn triple(heard: Triple) -> Outcome {
     Outcome::numbers(heard.answer, heard.first.into(), heard.second.into())
+}
+
+fn restored(heard: Restored) -> Outcome {
+    Outcome::numbers(heard.answer, heard.offset, 0)
 }
 
 fn waited(heard: Waited) -> Outcome {

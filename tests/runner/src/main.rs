@@ -1,9 +1,10 @@
 //! Tests of libntsync.a through its C interface.
-//! runner [--vectors] [--directed] [--tampered] [--crashes] [--random] [--fenced] [--damaged] [--slips]
-//!     [--seed N] [--calls N] [--seconds N]
+//! runner [--vectors] [--directed] [--tampered] [--crashes] [--random] [--fenced] [--damaged] [--pictures] [--boards]
+//!     [--slips] [--seed N] [--calls N] [--seconds N]
 //! No mode named: all of them. runner --script FILE plays the histories of a file in the notation of the vectors;
-//! runner --shrink FILE makes the failing history of such a file smaller.
+//! runner --shrink FILE makes the failing history of such a file smaller; runner --corpus FOLDER writes pictures there.
 
+mod boards;
 mod calls;
 mod coverage;
 mod crash;
@@ -17,13 +18,19 @@ mod layout;
 mod lent;
 mod library;
 mod lines;
+mod mutate;
+mod pictures;
 mod play;
 mod random;
+mod reading;
+mod saved;
 mod script;
 mod shrink;
 mod slips;
 mod states;
 mod tampered;
+mod texts;
+mod variants;
 mod vectors;
 
 use std::process::ExitCode;
@@ -46,7 +53,7 @@ impl Limits {
 
 type Run = fn(Limits) -> Result<String, String>;
 
-const MODES: [(&str, Run); 8] = [
+const MODES: [(&str, Run); 10] = [
     ("vectors", |_| vectors::run()),
     ("directed", |_| directed::run()),
     ("tampered", |_| tampered::run()),
@@ -54,6 +61,8 @@ const MODES: [(&str, Run); 8] = [
     ("random", history::run),
     ("fenced", fenced::run),
     ("damaged", damaged::run),
+    ("pictures", pictures::run),
+    ("boards", boards::run),
     ("slips", slips::run),
 ];
 
@@ -96,7 +105,7 @@ fn report(name: &str, run: impl FnOnce() -> Result<String, String>) -> bool {
 type Alone = Box<dyn FnOnce() -> Result<String, String>>;
 
 fn with_file(file: Option<String>, run: fn(&str) -> Result<String, String>) -> Result<Alone, String> {
-    let file = file.ok_or("--script and --shrink take a file")?;
+    let file = file.ok_or("--script and --shrink take a file, --corpus a folder")?;
     Ok(Box::new(move || run(&file)))
 }
 
@@ -121,6 +130,7 @@ fn arguments() -> Result<Given, String> {
             "calls" => given.limits.calls = number()?,
             "seconds" => given.limits.seconds = number()?,
             "script" => given.alone = Some(("script", with_file(words.next(), vectors::run_script)?)),
+            "corpus" => given.alone = Some(("corpus", with_file(words.next(), pictures::run_corpus)?)),
             "shrink" => given.alone = Some(("shrink", with_file(words.next(), crash::run_shrink)?)),
             "ending" => given.alone = Some(("ending", Box::new(crash::run_ending))),
             mode => {

@@ -1,4 +1,4 @@
-//! Library and second model side by side.
+//! Library and second model side by side, and beside them tables into which every picture is read back.
 
 use crate::crash;
 use crate::layout;
@@ -10,7 +10,11 @@ pub struct Bench {
     pub model: Model,
     /// The tables as the last call left them.
     before: Vec<u64>,
+    /// Other tables, for the pictures.
+    pub copy: Library,
 }
+
+pub const PICTURE: Call = Call::Picture { bytes: PICTURE_BYTES };
 
 /// A call on which the two differ.
 #[derive(Debug, Clone)]
@@ -25,7 +29,7 @@ impl Bench {
         crash::begun(1);
         let library = Library::made();
         let before = library.tables().to_vec();
-        Bench { library, model: Model::new(slip), before }
+        Bench { library, model: Model::new(slip), before, copy: Library::unmade() }
     }
 
     /// Starts a new history: newly made tables on both sides, over whatever the last one left.
@@ -45,17 +49,37 @@ impl Bench {
         self.model.state.next = next;
     }
 
-    /// One call on both, and then the picture of both; what both answered to the call.
+    /// One call on both, and then the picture of both, which is read back; what both answered to the call.
     pub fn step(&mut self, call: &Call) -> Result<Outcome, Box<Difference>> {
         crash::step(call);
         let outcome = self.call(call)?;
-        match self.call(&Call::Picture { bytes: PICTURE_BYTES }) {
-            Ok(_) => Ok(outcome),
+        let picture = self.call(&PICTURE).map_err(|later| later.what);
+        match picture.and_then(|picture| self.round_trip(picture.text)) {
+            Ok(()) => Ok(outcome),
             Err(later) => {
-                let what = format!("afterwards: {}", later.what);
+                let what = format!("afterwards: {later}");
                 Err(Box::new(Difference { library: Some(outcome.clone()), model: outcome, what }))
             }
         }
+    }
+
+    /// Over garbage, the picture makes tables that hold what the model holds, and that have this picture.
+    fn round_trip(&mut self, text: Vec<u8>) -> Result<(), String> {
+        self.copy.fence = self.library.fence;
+        self.copy.fill_with_garbage();
+        let reading = Call::Restore { text };
+        let restored = self.copy.play(&reading)?;
+        if restored != Outcome::answer(answer::DONE) {
+            return Err(format!("its own picture is refused: {} {}", restored.answer, restored.numbers[0]));
+        }
+        let again = self.copy.play(&PICTURE)?;
+        if let Some(what) = layout::differs_placed(self.copy.tables(), &self.model.state) {
+            return Err(format!("read back: {what}"));
+        }
+        if again.text != reading.text() {
+            return Err("read back and written again, the picture is another".into());
+        }
+        Ok(())
     }
 
     fn call(&mut self, call: &Call) -> Result<Outcome, Box<Difference>> {

@@ -1,9 +1,11 @@
 //! Calls, answers and failing histories in the notation of vectors/histories.txt.
-//! Added here: `expire CLOCK TIME`, `picture`, and behind `#` the time given to a wait if it is not 0 and lengths other
-//! than 96 and 32,768; in a title `next=N`, a next ticket other than 1 that the history begins with.
+//! Added here: `expire CLOCK TIME`, `picture`, `restore TEXT` (as `texts::escaped` writes it), and behind `#` the time given
+//! to a wait if it is not 0 and lengths other than 96 and 32,768; in a title `next=N`, a next ticket other than 1 that the
+//! history begins with.
 
 use crate::history::History;
 use crate::play::{Bench, Difference};
+use crate::texts::escaped;
 use second_model::{Call, Mode, Model, Outcome, Slip, NEVER, PICTURE_BYTES, WAKE_CELLS};
 
 pub fn call_text(call: &Call) -> String {
@@ -33,6 +35,7 @@ pub fn call_text(call: &Call) -> String {
         Call::Expire { clock, time, .. } => format!("expire {clock} {time}"),
         Call::Cancel { ticket } => format!("cancel {ticket}"),
         Call::Picture { .. } => "picture".into(),
+        Call::Restore { text } => format!("restore {}", escaped(text)),
     };
     words + &note(call)
 }
@@ -66,6 +69,7 @@ pub fn number_names(call: &Call) -> [&'static str; 2] {
         Call::Wait { .. } => ["index", "ticket"],
         Call::Close { .. } | Call::Cancel { .. } => ["", ""],
         Call::Picture { .. } => ["length", ""],
+        Call::Restore { .. } => ["offset", ""],
         _ => ["previous", "woken"],
     }
 }

@@ -2,6 +2,7 @@
 
 use crate::crash::{self, Child};
 use crate::history::History;
+use crate::mutate::with_one_fewer;
 use crate::script::{ended_text, history_text};
 use second_model::{Call, Slip, NEVER};
 
@@ -42,6 +43,7 @@ fn shrink(mut history: History, trial: Trial) -> History {
         history = drop_creates(history, trial);
         history = shorten_lists(history, trial);
         history = plainer_waits(history, trial);
+        history = shorten_texts(history, trial);
         if history == before {
             return history;
         }
@@ -125,6 +127,22 @@ fn shorten_lists(mut history: History, trial: Trial) -> History {
         }
     }
     history
+}
+
+/// The texts that are read lose objects and waits.
+fn shorten_texts(mut history: History, trial: Trial) -> History {
+    for at in (0..history.calls.len()).rev() {
+        while let Some(shorter) = with_shorter_text(&history, trial, at) {
+            history = shorter;
+        }
+    }
+    history
+}
+
+fn with_shorter_text(history: &History, trial: Trial, at: usize) -> Option<History> {
+    let texts = with_one_fewer(history.calls.get(at)?.text()).into_iter();
+    let mut shorter = texts.map(|text| changed(history, trial, |calls| calls[at] = Call::Restore { text }));
+    shorter.find_map(|history| history)
 }
 
 /// Waits on the monotonic clock at time 0, for ever, without alert.

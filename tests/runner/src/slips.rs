@@ -1,7 +1,8 @@
 //! Each slip of document 01 and of its changes, put into the second model, must be found by the random histories, and its
-//! script must be the shrunk history when it is read back.
+//! script must be the shrunk history when it is read back. Slips of reading must be found by the damaged pictures too.
 
 use crate::history::{play_many, Failure};
+use crate::pictures;
 use crate::play::Bench;
 use crate::shrink::{shrunk, Trial};
 use crate::vectors::read_back;
@@ -12,7 +13,7 @@ const SEED: u64 = 5;
 /// In which each slip must be found.
 const CALLS: u64 = 200_000;
 
-const SLIPS: [(Slip, &str); 7] = [
+const SLIPS: [(Slip, &str); 16] = [
     (Slip::UnlockWakesAtZero, "unlock wakes only at zero"),
     (Slip::KeepPartOfAll, "part of a wait for all kept"),
     (Slip::OwnerDeadRefuses, "EOWNERDEAD refuses"),
@@ -20,7 +21,18 @@ const SLIPS: [(Slip, &str); 7] = [
     (Slip::HandleZeroNames, "handle 0 names an object"),
     (Slip::EmptyAnyRefused, "empty list refused for any"),
     (Slip::EmptyAllPasses, "empty list let pass for all"),
+    (Slip::SumFromOne, "sum from 1"),
+    (Slip::OffsetLate, "offset one line late"),
+    (Slip::LeadingZero, "leading zero accepted"),
+    (Slip::HandlesUnordered, "handles in any order"),
+    (Slip::TicketsUnordered, "tickets in any order"),
+    (Slip::TailAccepted, "bytes behind the sum accepted"),
+    (Slip::ServableAccepted, "servable wait accepted"),
+    (Slip::UnsoundAccepted, "unsound state accepted"),
+    (Slip::PlacedFromEnd, "waits placed from the end"),
 ];
+/// From here on they are slips of reading.
+const READING: usize = 7;
 
 pub fn run(limits: Limits) -> Result<String, String> {
     let seed = limits.seed.unwrap_or(SEED);
@@ -31,6 +43,10 @@ pub fn run(limits: Limits) -> Result<String, String> {
         let script = script_of(failure, slip).map_err(|what| format!("{name}: {what}"))?;
         print!("{name}\n{script}");
         found.push(format!("{name}: call {}", coverage.calls + 1));
+    }
+    for (slip, name) in &SLIPS[READING..] {
+        let text = pictures::finds(*slip).ok_or(format!("slip not found by the damaged pictures: {name}"))?;
+        println!("{name}: {text}");
     }
     Ok(format!("{} of {} found, {}", found.len(), SLIPS.len(), found.join(", ")))
 }

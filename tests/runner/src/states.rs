@@ -6,7 +6,7 @@ use crate::library::Library;
 use crate::play::Bench;
 use crate::random::Random;
 use crate::script::{call_text, step_or_text};
-use second_model::{answer, Call, Mode, Object, NEVER, OBJECTS, TICKETS_SPENT, WAITS};
+use second_model::{answer, Call, Clock, Mode, Object, State, Wait, LIST, NEVER, OBJECTS, TICKETS_SPENT, WAITS};
 
 pub fn states(random: &mut Random) -> Result<Vec<(&'static str, Vec<u64>)>, String> {
     Ok(vec![
@@ -16,6 +16,19 @@ pub fn states(random: &mut Random) -> Result<Vec<(&'static str, Vec<u64>)>, Stri
         ("abandoned", built(&abandoned_calls())?),
         ("random, tickets spent", tickets_spent(random_state(random)?)),
     ])
+}
+
+/// The state with the longest picture.
+pub fn longest() -> State {
+    let mut state = State { next: TICKETS_SPENT, ..State::new() };
+    state.objects = [Some(Object::Mutex { owner: u32::MAX, count: u32::MAX, abandoned: false }); OBJECTS];
+    state.objects[OBJECTS - 1] = Some(Object::Event { signaled: false, manual: false });
+    for (place, wait) in state.waits.iter_mut().enumerate() {
+        let (ticket, list) = (TICKETS_SPENT - (WAITS - place) as u64, vec![OBJECTS as u32 - 1; LIST]);
+        let (mode, clock, alert) = (Mode::Any, Clock::Monotonic, OBJECTS as u32);
+        *wait = Some(Wait { ticket, mode, owner: u32::MAX, clock, timeout: NEVER, alert, list });
+    }
+    state
 }
 
 /// A call while a state is built: library and model must agree.

@@ -2,6 +2,7 @@
 //! fail. The change is made between the library's call and the comparison.
 
 use crate::calls::{all, any, event, expire, mutex, post, pulse, sem, unlock, with_wake};
+use crate::directed::PICTURE as P1;
 use crate::library::{Tamper, CELLS, GUARD, MOST_BYTES, MOST_WAKE};
 use crate::play::Bench;
 use crate::script::{call_text, step_or_text};
@@ -24,6 +25,8 @@ pub fn run() -> Result<String, String> {
         tampering.numbers(&call)?;
     }
     tampering.buffers()?;
+    tampering.texts()?;
+    tampering.copies()?;
     Ok(format!("{} changes noticed", tampering.noticed))
 }
 
@@ -53,6 +56,8 @@ fn calls() -> Vec<Call> {
         all(8, 0, NEVER, &[1, 1]),
         Call::Picture { bytes: PICTURE_BYTES },
         Call::Picture { bytes: PICTURE_BYTES - 1 },
+        Call::Restore { text: P1.as_bytes().to_vec() },
+        Call::Restore { text: P1.as_bytes()[..20].to_vec() },
     ]
 }
 
@@ -101,6 +106,49 @@ impl Tampering {
             let tamper: Tamper = Box::new(move |library, _| *library.list.cell_mut(cell) ^= 1);
             self.notices(call, 0, &format!("handle {cell} of the list"), tamper)?;
         }
+        Ok(())
+    }
+
+    /// Bytes of the text that is read, from guard to guard.
+    fn texts(&mut self) -> Result<(), String> {
+        let call = Call::Restore { text: P1.as_bytes().to_vec() };
+        for byte in 0..P1.len() + 2 * GUARD {
+            self.notices(
+                &call,
+                0,
+                &format!("byte {byte} of the text"),
+                Box::new(move |library, _| library.text[byte] ^= 1),
+            )?;
+        }
+        Ok(())
+    }
+
+    /// The same where the picture is read back: its tables, the answer, the offset, and the picture that is then written.
+    fn copies(&mut self) -> Result<(), String> {
+        for cell in cells(CELLS) {
+            self.notices_copy(
+                0,
+                &format!("cell {cell}"),
+                Box::new(move |library, _| *library.tables.cell_mut(cell) ^= 1),
+            )?;
+        }
+        self.notices_copy(0, "the answer", Box::new(|_, outcome| outcome.answer = 13))?;
+        self.notices_copy(0, "the offset", Box::new(|_, outcome| outcome.numbers[0] += 1))?;
+        self.notices_copy(1, "the length", Box::new(|_, outcome| outcome.numbers[0] -= 1))?;
+        for byte in 0..40 {
+            let tamper: Tamper = Box::new(move |library, _| *library.buffer.cell_mut(byte) ^= 1);
+            self.notices_copy(1, &format!("byte {byte}"), tamper)?;
+        }
+        Ok(())
+    }
+
+    fn notices_copy(&mut self, later: usize, what: &str, tamper: Tamper) -> Result<(), String> {
+        let mut bench = prepared()?;
+        bench.copy.tamper = Some((later, tamper));
+        if bench.step(&Call::ReadMutex { handle: 2 }).is_ok() || bench.copy.tamper.is_some() {
+            return Err(format!("not noticed in what is read back: {what}"));
+        }
+        self.noticed += 1;
         Ok(())
     }
 

@@ -4,6 +4,7 @@ use crate::history::History;
 use crate::library::{self, Far};
 use crate::play::Bench;
 use crate::script::{heard_text, number_names, outcome_text, step_or_text, step_text};
+use crate::texts::unescaped;
 use second_model::{answer, Call, Mode, Outcome, Report, LIST, NEVER, PICTURE_BYTES, WAKE_CELLS};
 
 const FILE: &str = include_str!("../../vectors/histories.txt");
@@ -234,6 +235,7 @@ fn parse_call(words: &[&str], note: &Note) -> Option<(Call, Option<usize>)> {
         "expire" => Call::Expire { clock: n(1)?, time: long(2)?, wake },
         "cancel" => Call::Cancel { ticket: long(1)? },
         "picture" => Call::Picture { bytes: note.bytes },
+        "restore" => Call::Restore { text: unescaped(words.get(1).unwrap_or(&""))? },
         "any" | "all" => parse_wait(words, [0, 0], note.time, words.get(4..)?)?,
         "raw" => {
             let call = parse_wait(&words[1..], [n(5)?, n(6)?], note.time, words.get(8..)?)?;

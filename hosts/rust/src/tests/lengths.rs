@@ -88,7 +88,20 @@ fn a_short_buffer_is_refused_and_a_long_one_keeps_its_rest() {
     assert!(buffer.iter().all(|&b| b == UNTOUCHED as u8));
     // SAFETY: as above.
     let r = unsafe { ffi::ntsync_snapshot(cells.as_ptr(), cells.len(), buffer.as_mut_ptr(), buffer.len()) };
-    assert_eq!((r.answer, r.length), (0, 25));
-    assert_eq!(&buffer[..25], b"next=1\nobjects=0\nwaits=0\n");
-    assert!(buffer[25..].iter().all(|&b| b == UNTOUCHED as u8));
+    assert_eq!((r.answer, r.length), (0, 34));
+    assert_eq!(&buffer[..34], b"next=1\nobjects=0\nwaits=0\nsum=2103\n");
+    assert!(buffer[34..].iter().all(|&b| b == UNTOUCHED as u8));
+}
+
+#[test]
+fn restore_takes_its_own_length_only_and_looks_at_that_before_the_text() {
+    for text in [&b"next=1\nobjects=0\nwaits=0\nsum=2103\n"[..], b"next=1\n", b""] {
+        for length in [0, 1, ffi::CELLS - 1, ffi::CELLS + 1] {
+            let mut cells = vec![UNTOUCHED; length];
+            // SAFETY: cells and text are apart and lent with their numbers.
+            let r = unsafe { ffi::ntsync_restore(cells.as_mut_ptr(), length, text.as_ptr(), text.len()) };
+            assert_eq!((r.answer, r.offset), (CORRUPT, 0));
+            assert_eq!(cells, vec![UNTOUCHED; length]);
+        }
+    }
 }

@@ -37,8 +37,8 @@ fn tables_are_equal_if_every_cell_is() {
 fn a_snapshot_fills_the_front_of_a_lent_buffer() {
     let tables = Tables::new();
     let mut buffer = vec![7; SNAPSHOT_BYTES + 1];
-    assert_eq!(tables.snapshot(&mut buffer), Ok("next=1\nobjects=0\nwaits=0\n"));
-    assert!(buffer[25..].iter().all(|&byte| byte == 7));
+    assert_eq!(tables.snapshot(&mut buffer), Ok("next=1\nobjects=0\nwaits=0\nsum=2103\n"));
+    assert!(buffer[34..].iter().all(|&byte| byte == 7));
     let mut short = vec![7; SNAPSHOT_BYTES - 1];
     assert_eq!(tables.snapshot(&mut short), Err(Refusal::ListShort));
     assert!(short.iter().all(|&byte| byte == 7));
@@ -48,7 +48,7 @@ fn a_snapshot_fills_the_front_of_a_lent_buffer() {
 fn debug_is_the_snapshot() {
     let (mut tables, _) = empty();
     assert_eq!(tables.create_mutex(Owner(5), 2), Ok(Handle(1)));
-    let words = "next=1 objects=1 handle=1 kind=mutex owner=5 count=2 abandoned=0 waits=0";
+    let words = "next=1 objects=1 handle=1 kind=mutex owner=5 count=2 abandoned=0 waits=0 sum=6296";
     assert_eq!(format!("{tables:?}"), format!("Tables {{ {words} }}"));
     assert_eq!(format!("{tables:#?}"), format!("Tables {{\n    {}\n}}", words.replace(' ', "\n    ")));
     assert_eq!(format!("{:?}", Tables::view(&[7; CELLS])), "Tables { Corrupt }");
@@ -58,7 +58,7 @@ fn debug_is_the_snapshot() {
 fn refusals_are_errors_with_their_numbers() {
     for number in 0..20 {
         let refusal = Refusal::from_number(number);
-        assert_eq!(refusal.is_some(), [1, 2, 3, 7, 8, 9, 10, 12].contains(&number));
+        assert_eq!(refusal.is_some(), [1, 2, 3, 7, 8, 9, 10, 12, 13].contains(&number));
         assert!(refusal.is_none_or(|refusal| refusal.number() == number));
     }
     let mut sentences: vec::Vec<_> = Refusal::ALL.iter().map(|refusal| refusal.to_string()).collect();
@@ -79,7 +79,7 @@ fn boxed_tables_are_made_and_taken() {
     assert_eq!(again, tables);
     assert_eq!(
         again.snapshot_string().as_deref(),
-        Ok("next=1\nobjects=1\nhandle=1\nkind=event\nsignaled=1\nmanual=1\nwaits=0\n")
+        Ok("next=1\nobjects=1\nhandle=1\nkind=event\nsignaled=1\nmanual=1\nwaits=0\nsum=5600\n")
     );
     assert_eq!(Tables::over_box(Box::new([7; CELLS])).snapshot_string(), Err(Refusal::Corrupt));
 }

@@ -6,6 +6,7 @@ mod lent;
 mod limits;
 mod readings;
 mod refusals;
+mod restoring;
 pub mod version;
 
 use crate::{Changed, Handle, Outcome, Owner, Refusal, Tables, Ticket, Wait, Waited, WakeList, WokenWaits};

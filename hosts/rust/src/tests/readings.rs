@@ -16,7 +16,7 @@ fn p1() -> (Tables, Handle, Handle) {
 #[test]
 fn p1_snapshot() {
     let lines = "next=2 objects=2 handle=1 kind=sem count=1 max=2 handle=2 kind=event signaled=0 manual=1 waits=1 wait=1 \
-                 mode=all owner=7 clock=mono timeout=18446744073709551615 alert=0 n=2 obj=1 obj=2 ";
+                 mode=all owner=7 clock=mono timeout=18446744073709551615 alert=0 n=2 obj=1 obj=2 sum=15010 ";
     assert_eq!(p1().0.snapshot(&mut [0; SNAPSHOT_BYTES]), Ok(&*lines.replace(' ', "\n")));
 }
 

@@ -38,6 +38,7 @@ fn another_version_makes_no_tables() {
     refused(|| _ = Tables::over(&mut cells));
     refused(|| _ = Tables::over_slice(&mut cells));
     refused(|| _ = Tables::view(&cells));
+    refused(|| _ = Tables::restore(""));
     #[cfg(feature = "alloc")]
     {
         refused(|| _ = Tables::boxed());
