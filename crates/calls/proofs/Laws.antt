@@ -1,17 +1,15 @@
 -- What the calls' definitions come to on each way through the code.
 use Prim.Native.Nat.{ℕ, _+_, _<_, _≤_}
-use mathlib.Core.Path.{_≡_, refl, sym, ap, _∙_}
-use mathlib.Core.Bool.{Bool, true, false, not, _&&_, _||_, cond}
+use mathlib.Core.Path.{_≡_, refl, sym}
+use mathlib.Core.Bool.{Bool, true, false, not, cond}
 use mathlib.Core.List.{List}
-use lib.Dec.{eqb, ltb}
 use borrow.Author.Tests.{lt-ltb, le-ltb, eq-eqb, ne-eqb}
 use Rattle.model.specs.Sizes.{objectPlaces, waitPlaces}
-use Rattle.model.specs.Calls.{Lent, aSemaphore, aMutex, anEvent}
+use Rattle.model.specs.Calls.{Lent, aMutex}
 use Rattle.cells.specs.Fold.{someBelow}
-use Rattle.cells.proofs.Fold.{fold-more}
 use Rattle.cells.specs.Objects.{Fields, noFields, putFields, named, store, Changed, switchFields}
 use Rattle.cells.specs.Waits.{ticketAt, namesAt, clearWait}
-use Rattle.cells.specs.Validity.{occupiedAt, validCells}
+use Rattle.cells.specs.Validity.{occupiedAt}
 use Rattle.cells.specs.Calls.{answered, refusedWith, emptyObject, createCells, busyAt, closeCells, readPair, readCells, resetCells, ticketPlace, cancelCells}
 use native.Mathlib.Omega.{arith}
 use Rattle.model.proofs.Logic.{not-true, not-false}
@@ -102,7 +100,3 @@ module _ (t : List ℕ) (h p : ℕ) {ticket : ℕ} (q : ticket ≡ ticketAt t p)
   pub busy-queued : (ticket ≡ 0 → ⊥) → namesAt t h p ≡ busyAt t h p
   unfolding busyAt
   busy-queued n = rw (sym q, lt-ltb 0 ticket (omega (arith, n)))
-
--- one more place
-pub busy-more : (t : List ℕ) (h p : ℕ) {found here : Bool} → found ≡ someBelow (busyAt t h) p → here ≡ busyAt t h p → (found || here) ≡ someBelow (busyAt t h) (p + 1)
-busy-more t h p e b = rw (e, b) (fold-more (λ (q : Bool) i. q || busyAt t h i) false p)

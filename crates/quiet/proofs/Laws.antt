@@ -1,16 +1,14 @@
 -- One wait place, then one more.
 use mathlib.Core.Path.{_≡_, sym}
-use mathlib.Core.Bool.{Bool, true, false, _||_}
+use mathlib.Core.Bool.{Bool, true, false}
 use mathlib.Core.List.{List}
-use Prim.Native.Nat.{ℕ, _+_}
+use Prim.Native.Nat.{ℕ}
 use native.Mathlib.Omega.{arith}
 use lib.ListN.{length}
 use lib.Dec.{ltb}
 use borrow.Author.Tests.{eq-eqb, ne-eqb, lt-ltb}
-use Rattle.cells.specs.Fold.{someBelow}
 use Rattle.cells.specs.Waits.{ticketAt, modeAt, ownerAt, alertAt, listOf}
 use Rattle.cells.specs.Attempt.{signaledAt, lookAny, lookAll, listServes, servableAt, readyAt}
-use Rattle.cells.proofs.Fold.{fold-more}
 
 -- by the list
 module _ (t : List ℕ) (mode asking : ℕ) (list : List ℕ) where
@@ -41,7 +39,3 @@ module _ (t : List ℕ) (p : ℕ) {ticket : ℕ} (q : ticket ≡ ticketAt t p) w
   pub ready-queued : (ticket ≡ 0 → ⊥) → servableAt t p ≡ readyAt t p
   unfolding readyAt
   ready-queued n = rw (sym q, lt-ltb 0 ticket (omega (arith, n)))
-
--- one more place
-pub ready-more : (t : List ℕ) (p : ℕ) {found here : Bool} → found ≡ someBelow (readyAt t) p → here ≡ readyAt t p → (found || here) ≡ someBelow (readyAt t) (p + 1)
-ready-more t p e b = rw (e, b) (fold-more (λ (q : Bool) i. q || readyAt t i) false p)

@@ -1,11 +1,10 @@
-use Rattle.calls.proofs.Laws.{busy-more}
-use Rattle.cells.proofs.Fold.{fold-none}
+use Rattle.cells.proofs.Fold.{fold-none, some-more}
 use Rattle.cells.specs.Calls.{busyAt}
 use Rattle.cells.specs.Fold.{someBelow}
 use Rattle.model.specs.Sizes.{waitPlaces}
 use mathlib.Core.Bool.{Bool, false, _||_}
 use mathlib.Core.Path.{_≡_}
-use Prim.Native.Nat.{ℕ, _≤_, _-_}
+use Prim.Native.Nat.{_≤_, _-_}
 use native.Mathlib.Omega.{arith}
 use borrow.Author.Needs.{needs}
 use Rattle.calls.proofs.busy.Statement.{statement}
@@ -38,7 +37,7 @@ loop-less c = search needs
 
 -- src/lib.rt:72:5
 loop-again : tie.Need-loop-again Inv-loop μ-loop
-loop-again c = let a = c .before .before .before .before .args in (search needs, busy-more (a .t .now) (a .h) (c .before .before .loop .p) (c .before .before .loop .inv .1) (c .busy-at .ensures))
+loop-again c = let a = c .before .before .before .before .args in (search needs, some-more (busyAt (a .t .now) (a .h)) (c .before .before .loop .p) (c .before .before .loop .inv .1) (c .busy-at .ensures))
 
 -- src/lib.rt:66:1
 returns : tie.Need-returns Inv-loop μ-loop

@@ -4,8 +4,7 @@ use mathlib.Core.Bool.{Bool, false, not, _||_}
 use Rattle.model.specs.Sizes.{waitPlaces}
 use Rattle.cells.specs.Fold.{someBelow}
 use Rattle.cells.specs.Attempt.{readyAt}
-use Rattle.cells.proofs.Fold.{fold-none}
-use Rattle.quiet.proofs.Laws.{ready-more}
+use Rattle.cells.proofs.Fold.{fold-none, some-more}
 use native.Mathlib.Omega.{arith}
 use borrow.Author.Needs.{needs}
 use Rattle.quiet.proofs.quiet.Statement.{statement}
@@ -38,7 +37,7 @@ loop-less c = search needs
 
 -- src/lib.rt:56:5
 loop-again : tie.Need-loop-again Inv-loop μ-loop
-loop-again c = (search needs, ready-more (c .before .before .before .before .args .t .now) (c .before .before .loop .p) (c .before .before .loop .inv .1) (c .ready-at .ensures))
+loop-again c = (search needs, some-more (readyAt (c .before .before .before .before .args .t .now)) (c .before .before .loop .p) (c .before .before .loop .inv .1) (c .ready-at .ensures))
 
 -- src/lib.rt:50:1
 returns : tie.Need-returns Inv-loop μ-loop
