@@ -9,7 +9,10 @@ ghost use Rattle.model.specs.Layout.{tableLength};
 ghost use Rattle.model.specs.Reading.{times, numberLine, wordLine};
 ghost use Rattle.lines.specs.Outcome.{Outcome};
 ghost use Rattle.reader.specs.Contracts.{kindWords, kindOf, ReadValues, ReadObject, ReadObjects, ReadWait, ReadWaits, ReadAll};
+use kinds::Event;
+use kinds::Mutex;
 use kinds::Object;
+use kinds::Semaphore;
 use lines::Line;
 use lines::begins;
 use lines::either;
@@ -37,19 +40,25 @@ pub struct Values {
     pub attribute: u64,
 }
 
+fn no_values(at: usize) -> Values
+    ensures { λ r. ⌜ r ≡ record { ok = false; at = at; count = 0; owner = 0; attribute = 0 } ⌝ }
+{
+    Values {
+        ok: false,
+        at: at,
+        count: 0,
+        owner: 0,
+        attribute: 0,
+    }
+}
+
 fn semaphore_values(text: &[u8], at: usize) -> Values
     requires { ⌜ at ≤ length (now text) ⌝ }
     ensures { λ r. ⌜ ReadValues (now (text .entry)) at aSemaphore 1 r ⌝ }
 {
     let c = number_line(text, at, b"count=", 0, MAX_32);
     if !c.ok {
-        return Values {
-            ok: false,
-            at: c.at,
-            count: 0,
-            owner: 0,
-            attribute: 0,
-        };
+        return no_values(c.at);
     }
     let m = number_line(text, c.at, b"max=", 0, MAX_32);
     Values {
@@ -97,23 +106,11 @@ fn mutex_values(text: &[u8], at: usize) -> Values
 {
     let o = number_line(text, at, b"owner=", 0, MAX_32);
     if !o.ok {
-        return Values {
-            ok: false,
-            at: o.at,
-            count: 0,
-            owner: 0,
-            attribute: 0,
-        };
+        return no_values(o.at);
     }
     let c = number_line(text, o.at, b"count=", 0, MAX_32);
     if !c.ok {
-        return Values {
-            ok: false,
-            at: c.at,
-            count: 0,
-            owner: 0,
-            attribute: 0,
-        };
+        return no_values(c.at);
     }
     let a = number_line(text, c.at, b"abandoned=", 0, 1);
     Values {
@@ -131,13 +128,7 @@ fn event_values(text: &[u8], at: usize) -> Values
 {
     let s = number_line(text, at, b"signaled=", 0, 1);
     if !s.ok {
-        return Values {
-            ok: false,
-            at: s.at,
-            count: 0,
-            owner: 0,
-            attribute: 0,
-        };
+        return no_values(s.at);
     }
     let m = number_line(text, s.at, b"manual=", 0, 1);
     Values {
@@ -159,7 +150,7 @@ fn kind_line(text: &[u8], at: usize) -> Line
         return Line {
             ok: true,
             at: at + 9,
-            value: 1,
+            value: Semaphore::KIND,
         };
     }
     let mutex = begins(text, at, b"kind=mutex\n");
@@ -167,7 +158,7 @@ fn kind_line(text: &[u8], at: usize) -> Line
         return Line {
             ok: true,
             at: at + 11,
-            value: 2,
+            value: Mutex::KIND,
         };
     }
     let event = begins(text, at, b"kind=event\n");
@@ -175,7 +166,7 @@ fn kind_line(text: &[u8], at: usize) -> Line
         return Line {
             ok: true,
             at: at + 11,
-            value: 3,
+            value: Event::KIND,
         };
     }
     Line {
@@ -189,10 +180,10 @@ fn read_values(text: &[u8], at: usize, kind: u64) -> Values
     requires { ⌜ (at ≤ length (now text)) × (1 ≤ kind) × (kind ≤ 3) ⌝ }
     ensures { λ r. ⌜ ReadValues (now (text .entry)) at (kindOf kind) kind r ⌝ }
 {
-    if kind == 1 {
+    if kind == Semaphore::KIND {
         return semaphore_values(text, at);
     }
-    if kind == 2 {
+    if kind == Mutex::KIND {
         return mutex_values(text, at);
     }
     event_values(text, at)
