@@ -62,7 +62,7 @@
 
 /* Rises with every change of a signature, an argument's meaning, a size, an answer or the layout of the tables. A host
  * compares it with ntsync_version() at its start, and with the version that it stored with saved tables. */
-#define NTSYNC_VERSION 3
+#define NTSYNC_VERSION 4
 
 /* ---- sizes */
 
@@ -190,7 +190,8 @@ uint32_t ntsync_init(uint64_t *tables, size_t cells) NTSYNC_MAKES_TABLES;
 
 /* ---- objects: creating takes the lowest empty place, so the handle of a closed object is given again */
 
-/* A semaphore. NTSYNC_EINVAL if count exceeds max; NTSYNC_NO_ROOM if all places are in use. */
+/* A semaphore. NTSYNC_EINVAL if count exceeds max, or if max is 0: it could never be signaled. NTSYNC_NO_ROOM if all places
+ * are in use. */
 ntsync_created ntsync_create_sem(uint64_t *tables, size_t cells, uint32_t count, uint32_t max) NTSYNC_ALTERS_TABLES;
 
 /* A mutex, held count times by owner, or unowned if both are 0. Owner numbers are the host's own, 1 to 2^32-1, one for each

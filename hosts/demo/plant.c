@@ -18,6 +18,7 @@ static void create_objects(plant *p)
     p->flush = created(p, "manual event", "flush", ntsync_create_event(t, NTSYNC_CELLS, 0, 1));
     p->stop = created(p, "auto event", "stop", ntsync_create_event(t, NTSYNC_CELLS, 0, 0));
     answered(p, "plant", "tries a semaphore 5 of 4", ntsync_create_sem(t, NTSYNC_CELLS, 5, 4).answer, NTSYNC_EINVAL);
+    answered(p, "plant", "tries a semaphore 0 of 0", ntsync_create_sem(t, NTSYNC_CELLS, 0, 0).answer, NTSYNC_EINVAL);
 }
 
 static void add_task(plant *p, int number, const char *name, step_function *step)

@@ -19,7 +19,7 @@ fn valid_object(cells: &[u64]) -> bool {
     let (kind, count, owner, attribute) = (cells[0], cells[1], cells[2], cells[3]);
     match kind {
         EMPTY => count == 0 && owner == 0 && attribute == 0,
-        SEMAPHORE => count <= attribute && owner == 0 && attribute <= MAX_32,
+        SEMAPHORE => count <= attribute && owner == 0 && (1..=MAX_32).contains(&attribute),
         MUTEX => {
             let held = owner != 0;
             held == (count != 0) && count <= MAX_32 && owner <= MAX_32 && attribute <= 1 && !(held && attribute == 1)

@@ -55,7 +55,7 @@ fn create(tables: &mut [u64], object: Option<Object>) -> Outcome<Created> {
 }
 
 fn create_sem(tables: &mut [u64], count: u32, max: u32) -> Outcome<Created> {
-    create(tables, (count <= max).then_some(Object::Semaphore { count, max }))
+    create(tables, (count <= max && max != 0).then_some(Object::Semaphore { count, max }))
 }
 
 fn create_mutex(tables: &mut [u64], owner: u32, count: u32) -> Outcome<Created> {

@@ -39,6 +39,8 @@ const EVENT: usize = 9;
 
 const ABANDONED: usize = 17;
 
+const UNNAMED: usize = 21;
+
 const EMPTY: usize = 25;
 
 const ANY: usize = WAITS;
@@ -69,7 +71,7 @@ fn put_objects(t: &mut Cells) {
     ntsync::create_event(t, 1, 0);
     ntsync::create_event(t, 0, 1);
     ntsync::create_mutex(t, 0, 0);
-    ntsync::create_sem(t, 0, 0);
+    ntsync::create_sem(t, 0, 1);
     memory::put(t, ABANDONED + ATTRIBUTE, 1);
 }
 
@@ -177,6 +179,7 @@ fn objects() {
 fn semaphores_and_events() {
     one_cell(b"semaphore 4 of 3", SEMAPHORE, COUNT, 4);
     one_cell(b"semaphore maximum 2^32", SEMAPHORE, ATTRIBUTE, WORD32);
+    one_cell(b"semaphore maximum 0", UNNAMED, ATTRIBUTE, 0);
     one_cell(b"semaphore owner 1", SEMAPHORE, OWNER, 1);
     one_cell(b"event signaled 2", EVENT, COUNT, 2);
     one_cell(b"event manual 2", EVENT, ATTRIBUTE, 2);

@@ -45,6 +45,7 @@ fn no_room(t: Tables) -> Tables {
         .create_mutex(5, 2)
         .create_event(1, 0)
         .create_semaphore(2, 1)
+        .create_semaphore(0, 0)
         .create_mutex(0, 1)
 }
 

@@ -7,10 +7,11 @@ const MOST: u32 = 4294967295;
 fn semaphores(t: Tables) -> Tables {
     t.create_semaphore(2, 1)
         .create_semaphore(1, 0)
+        .create_semaphore(0, 0)
         .create_semaphore(MOST, MOST - 1)
         .create_semaphore(MOST, MOST)
         .read_semaphore(1)
-        .create_semaphore(0, 0)
+        .create_semaphore(0, 1)
         .read_semaphore(2)
         .create_semaphore(0, MOST)
         .read_semaphore(3)

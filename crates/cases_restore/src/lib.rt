@@ -152,6 +152,14 @@ fn servable() {
     read_whole(t, written(&cells));
 }
 
+// A maximum of 0 is in its key's range, and the sum is made right: the offset is 0 (4/13).
+fn no_maximum() {
+    let t = Tables::new().create_semaphore(0, 1).create_event(0, 0);
+    read_back(t);
+    let cells = t.cells;
+    read_changed(t, with(written(&cells), 104, b'5'), 47, b'0');
+}
+
 // 9 before 13.
 fn short_tables(text: Text) {
     let mut t = [7u64; TABLE_LENGTH - 1];
@@ -172,5 +180,6 @@ pub fn cases() {
     cut(t, text);
     changed(t, text);
     servable();
+    no_maximum();
     short_tables(text);
 }

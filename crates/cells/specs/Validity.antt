@@ -6,6 +6,7 @@ use lib.ListN.{length, getD}
 use lib.Dec.{eqb, ltb, leb}
 use Rattle.model.specs.Sizes.{objectPlaces, waitPlaces, maxListed, word32}
 use Rattle.model.specs.Basics.{bit, allOf}
+use Rattle.model.specs.Objects.{neverSignaled}
 use Rattle.model.specs.Layout.{headerSize, waitSize, tableLength, inWait}
 use Rattle.cells.specs.Fold.{allBelow, someBelow}
 use Rattle.cells.specs.Objects.{Fields, fieldsAt, named}
@@ -14,7 +15,7 @@ use Rattle.cells.specs.Waits.{nextTicket, ticketAt, modeAt, ownerAt, clo
 unfoldable pub validFields : Fields → Bool
 validFields x =
     cond (eqb (x .kind) 0) (allOf (eqb (x .count) 0 ∷ eqb (x .owner) 0 ∷ eqb (x .attribute) 0 ∷ []))
-    (cond (eqb (x .kind) 1) (allOf (leb (x .count) (x .attribute) ∷ ltb (x .attribute) word32 ∷ eqb (x .owner) 0 ∷ []))
+    (cond (eqb (x .kind) 1) (allOf (leb (x .count) (x .attribute) ∷ ltb (x .attribute) word32 ∷ not (neverSignaled (x .attribute)) ∷ eqb (x .owner) 0 ∷ []))
     (cond (eqb (x .kind) 2) (allOf (ltb (x .owner) word32 ∷ ltb (x .count) word32 ∷ leb (x .attribute) 1 ∷ eqb (bit (eqb (x .owner) 0)) (bit (eqb (x .count) 0))
     ∷ (eqb (x .attribute) 0 || eqb (x .owner) 0) ∷ []))
     (cond (eqb (x .kind) 3) (allOf (leb (x .count) 1 ∷ leb (x .attribute) 1 ∷ eqb (x .owner) 0 ∷ [])) false)))

@@ -76,11 +76,14 @@ impl Semaphore {
     // The highest maximum: counts have 32 bits.
     pub const MAX_COUNT: u64 = 4294967295;
 
-    // The count does not exceed the maximum.
+    // The lowest maximum: with 0 it could never be signaled (house).
+    pub const LOWEST_MAX: u64 = 1;
+
+    // The count does not exceed the maximum, and the maximum is within its limits.
     pub fn valid(count: u64, max: u64) -> bool
         ensures { λ r. ⌜ r ≡ validFields (fields 1 count 0 max) ⌝ }
     {
-        (count <= max) & (max <= Semaphore::MAX_COUNT)
+        (count <= max) & (max <= Semaphore::MAX_COUNT) & (Semaphore::LOWEST_MAX <= max)
     }
 
     pub fn create(count: u32, max: u32) -> Creation

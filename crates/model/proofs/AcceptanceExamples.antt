@@ -118,6 +118,9 @@ furtherExamples =
     ∷ forNone any 2 never 0 ∷ signal setEvent 2 ∷ forNone any 2 never 0 ∷ read anEvent 2
     ∷ forNone any 0 50 0 ∷ expire 0 49 ∷ expire 0 50 ∷ forNone any 0 50 50 ∷ forNone any 0 never 0 ∷ expire 0 never ∷ cancel 4
     ∷ forNone all 0 never 0 ∷ forNone all 2 never 0 ∷ [])
+    -- 4/13: a maximum of 0 is refused, one of 1 with either count is not; at count 0 it takes a post of 1
+    ∷ (create aSemaphore 0 0 ∷ create aSemaphore 1 0 ∷ create aSemaphore 0 1 ∷ create aSemaphore 1 1 ∷ read aSemaphore 1 ∷ read aSemaphore 2
+    ∷ signal (post 1) 1 ∷ signal (post 1) 2 ∷ [])
     ∷ []
 
 abbrev pub furtherExpected : List (List Heard)
@@ -139,6 +142,8 @@ furtherExpected =
     ∷ says 11 0 2 ∷ reports 0 ((2 ∷ 0 ∷ 0 ∷ []) ∷ []) ∷ says 0 0 0 ∷ says 0 1 1
     ∷ says 11 0 3 ∷ says 0 0 0 ∷ reports 0 ((3 ∷ 5 ∷ 0 ∷ []) ∷ []) ∷ says 5 0 0 ∷ says 11 0 4 ∷ says 0 0 0 ∷ says 6 0 0
     ∷ says 1 0 0 ∷ says 1 0 0 ∷ [])
+    ∷ (says 1 0 0 ∷ says 1 0 0 ∷ says 0 1 0 ∷ says 0 2 0 ∷ says 0 0 1 ∷ says 0 1 1
+    ∷ says 0 0 0 ∷ says 3 0 0 ∷ [])
     ∷ []
 
 pub further-library : map (λ ops. map heard (run libraryStep initial (map calling ops))) furtherExamples ≡ furtherExpected

@@ -8,7 +8,7 @@ use Rattle.model.specs.Sizes.{objectPlaces, waitPlaces, never, ticketsEn
 use Rattle.model.specs.Basics.{anyOf, allOf, member, hasRepeat, tabulate, joined}
 use Rattle.model.specs.Waits.{any, all, lowestSignaled, allSignaled, look, attempt, acquireEach, anyAbandoned, dequeue}
 use Rattle.model.specs.Waits.{oldest, concernedBy, serve, tryToServe, walkQueue}
-use Rattle.model.specs.Calls.{aSemaphore, anEvent, setEvent, unlock, create, resetEvent, signal, wait, expire, cancel}
+use Rattle.model.specs.Calls.{aSemaphore, anEvent, setEvent, unlock, create, resetEvent, read, signal, wait, expire, cancel}
 use Rattle.model.specs.Calls.{nothingLent, wakeLent, asks, least, lowestEmpty, allOccupied, waitsFull, enqueue}
 use Rattle.model.specs.Calls.{refusals, admits, endEach, change}
 use Rattle.model.specs.Snapshot.{ascii, digitsUpTo, line, objectText, objectsText, objectCount, waitText}
@@ -59,7 +59,7 @@ ofNone mode = oneEvent 2 ((1 ∷ mode ∷ 7 ∷ 0 ∷ 50 ∷ 0 ∷ 1 ∷ []) ∷
 abbrev ofNoneText : List ℕ
 ofNoneText = ascii "next=2\nobjects=1\nhandle=1\nkind=event\nsignaled=0\nmanual=0\nwaits=1\nwait=1\nmode=any\nowner=7\nclock=mono\ntimeout=50\nalert=1\nn=0\nsum=10526\n"
 
--- every object place an event; tickets spent; a semaphore of 2 of 1
+-- every object place an event; tickets spent; a semaphore of 2 of 1; of 0 of a maximum
 abbrev full : List ℕ
 full = tables 1 (tabulate objectPlaces (λ p. 3 ∷ [])) []
 
@@ -68,6 +68,9 @@ spent = tables ticketsEnd ((3 ∷ []) ∷ []) []
 
 abbrev damaged : List ℕ
 damaged = tables 1 ((1 ∷ 2 ∷ 0 ∷ 1 ∷ []) ∷ []) []
+
+abbrev ofMaximum : ℕ → List ℕ
+ofMaximum m = tables 1 ((1 ∷ 0 ∷ 0 ∷ m ∷ []) ∷ []) []
 
 abbrev sevens : ℕ → List ℕ
 sevens n = replicate n 7
@@ -109,8 +112,14 @@ pub table-readings :
     × (seen (tableStep (oneEvent 1 []) (asks (wait all [] 7 0 0 1 50 0) nothingLent))
     ≡ sees (1 ∷ 0 ∷ 0 ∷ 0 ∷ []) nothingLent (oneEvent 1 []))
     × (seen (tableStep (ofNone 1) (asks (cancel 1) nothingLent)) ≡ sees (9 ∷ 0 ∷ 0 ∷ 0 ∷ []) nothingLent (ofNone 1))
+    -- 4/13: a maximum of 0 is damage, one of 1 is not; it is refused with 1 also where every place is in use, before 7
+    × (seen (tableStep (ofMaximum 0) (asks (read aSemaphore 1) nothingLent))
+    ≡ sees (9 ∷ 0 ∷ 0 ∷ 0 ∷ []) nothingLent (ofMaximum 0))
+    × (seen (tableStep (ofMaximum 1) (asks (read aSemaphore 1) nothingLent))
+    ≡ sees (0 ∷ 0 ∷ 1 ∷ 0 ∷ []) nothingLent (ofMaximum 1))
+    × (seen (tableStep full (asks (create aSemaphore 0 0) nothingLent)) ≡ sees (1 ∷ 0 ∷ 0 ∷ 0 ∷ []) nothingLent full)
 unfolding tableStep validTables sameCells view encode tabulate joined objectCells waitCells allOf oldest distinctTickets lowestSignaled allSignaled look attempt acquireEach anyAbandoned dequeue serve tryToServe member concernedBy walkQueue libraryStep firstRefusal records refusals change least lowestEmpty waitsFull enqueue allOccupied hasRepeat anyOf admits endEach
-table-readings = (refl, refl, refl, refl, refl, refl, refl, refl, refl, refl, refl, refl, refl, refl, refl, refl, refl)
+table-readings = (refl, refl, refl, refl, refl, refl, refl, refl, refl, refl, refl, refl, refl, refl, refl, refl, refl, refl, refl, refl)
 
 -- a text with a mutex, mode any and the real-time clock, of the state that the tables show; one of a wait without obj lines
 pub text-reading : (snapshotText (view held) ≡ heldText) × (snapshotText (view (ofNone 0)) ≡ ofNoneText)

@@ -20,6 +20,7 @@ pub mod Answers
 pub mod Reports
 pub mod Places
 pub mod Sleeps
+pub mod Semaphores
 pub mod Tables
 pub mod DamageExamples
 pub mod ReadLines

@@ -8,13 +8,13 @@ use native.Mathlib.Omega.{arith}
 use native.Mathlib.Nat.{div-add-mod, mod-lt}
 use lib.ListN.{length, getD, replicate, take, List·getD-append, List·getD-eq-default}
 use lib.Seq.{getD-append-add, getD-take, ext-getD}
-use lib.Dec.{eqb, ltb, leb}
+use lib.Dec.{eqb, ltb}
 use borrow.Author.Tests.{ltb-true, ltb-false, leb-true, eqb-true, eqb-false, not-true, lt-ltb, le-ltb, le-leb, eq-eqb, ne-eqb}
 use Rattle.model.specs.Basics.{queued, bit, member, hasRepeat, tabulate}
 use Rattle.model.specs.Calls.{listTooShort, allOccupied, repeats}
 use Rattle.model.specs.Layout.{objectSize, headerSize, waitSize, waitsBase, tableLength, objectCells, modeCell, waitCells, encode, objectOf, inObject, inWait, waitOf, view, validObject, validWait, distinctTickets, validTables}
 use Rattle.model.specs.Sizes.{objectPlaces, waitPlaces, maxListed, word32, word64}
-use Rattle.model.specs.Objects.{Object, empty, semaphore, mutex, event, occupied, isEvent, abandoned}
+use Rattle.model.specs.Objects.{Object, empty, semaphore, mutex, event, occupied, isEvent, abandoned, neverSignaled}
 use Rattle.model.specs.ValidCells.{Occupied, OfEvent, ValidObject, ValidWait, ValidCells}
 use Rattle.model.specs.Notions.{_isIn_}
 use Rattle.model.specs.Waits.{Mode, any, all, Wait, WaitPlace, free, waiting, State, objectAt, anyWaiting}
@@ -36,6 +36,13 @@ same-zero a b e = (
 pub zero-same : (a b : ℕ) → (a ≡ 0 → b ≡ 0) → (b ≡ 0 → a ≡ 0) → eqb (bit (eqb a 0)) (bit (eqb b 0)) ≡ true
 zero-same a b f g = byBool (eqb a 0) (λ y. rw (y, eq-eqb b 0 (f (eqb-true a 0 y)))) (λ n. rw (n, ne-eqb b 0 (λ z. eqb-false a 0 n (g z))))
 
+-- a maximum of 1 or more
+pub has-maximum : (m : ℕ) → not (neverSignaled m) ≡ true → 1 ≤ m
+has-maximum m e = let n : m ≡ 0 → ⊥ = eqb-false m 0 (not-true _ e) in omega arith
+
+pub maximum-has : (m : ℕ) → 1 ≤ m → not (neverSignaled m) ≡ true
+maximum-has m l = ap not (ne-eqb m 0 (λ z. let w : ⊥ = omega arith in w))
+
 bit-low : (b : Bool) → bit b ≤ 1
 bit-low true = omega arith
 bit-low false = omega arith
@@ -55,15 +62,17 @@ object-lines empty g = record {
   kinds = omega arith;
   zeros = λ e. (refl, refl, refl);
   semaphore = λ e. absurd (let z : ⊥ = omega arith in z);
+  maximum = λ e. absurd (let z : ⊥ = omega arith in z);
   mutex = λ e. absurd (let z : ⊥ = omega arith in z);
   unowned = λ e. absurd (let z : ⊥ = omega arith in z);
   abandoned = λ e. absurd (let z : ⊥ = omega arith in z);
   event = λ e. absurd (let z : ⊥ = omega arith in z);
 }
-object-lines (semaphore c m) g = let (t0, (t1, t2)) = passed (leb c m ∷ ltb m word32 ∷ []) g in record {
+object-lines (semaphore c m) g = let (t0, (t1, (t2, t3))) = passed _ g in record {
   kinds = omega arith;
   zeros = λ e. absurd (let z : ⊥ = omega arith in z);
   semaphore = λ e. (leb-true c m t0, ltb-true m word32 t1, refl);
+  maximum = λ e. has-maximum m t2;
   mutex = λ e. absurd (let z : ⊥ = omega arith in z);
   unowned = λ e. absurd (let z : ⊥ = omega arith in z);
   abandoned = λ e. absurd (let z : ⊥ = omega arith in z);
@@ -73,6 +82,7 @@ object-lines (mutex o c a) g = let (t0, (t1, (t2, (t3, t4)))) = passed (ltb o wo
   kinds = omega arith;
   zeros = λ e. absurd (let z : ⊥ = omega arith in z);
   semaphore = λ e. absurd (let z : ⊥ = omega arith in z);
+  maximum = λ e. absurd (let z : ⊥ = omega arith in z);
   mutex = λ e. (ltb-true o word32 t0, ltb-true c word32 t1, bit-low a);
   unowned = λ e. same-zero o c t2;
   abandoned = λ e. go a t3;
@@ -86,6 +96,7 @@ object-lines (event s m) g = record {
   kinds = omega arith;
   zeros = λ e. absurd (let z : ⊥ = omega arith in z);
   semaphore = λ e. absurd (let z : ⊥ = omega arith in z);
+  maximum = λ e. absurd (let z : ⊥ = omega arith in z);
   mutex = λ e. absurd (let z : ⊥ = omega arith in z);
   unowned = λ e. absurd (let z : ⊥ = omega arith in z);
   abandoned = λ e. absurd (let z : ⊥ = omega arith in z);
@@ -108,7 +119,7 @@ object-shape k c o a v = byNumber k (v .kinds)
 object-passes : (k c o a : ℕ) → ValidObject k c o a → validObject (objectOf k c o a) ≡ true
 object-passes k c o a v = byNumber k (v .kinds)
     (λ e. rw e)
-    (λ e. let r = v .semaphore e in rw e (pass _ (le-leb c a (r .0), (lt-ltb a word32 (r .1), tt))))
+    (λ e. let r = v .semaphore e in rw e (pass _ (le-leb c a (r .0), (lt-ltb a word32 (r .1), (maximum-has a (v .maximum e), tt)))))
     (λ e. let r = v .mutex e in let u = v .unowned e in rw e (pass _ (
       lt-ltb o word32 (r .0),
       (

@@ -78,6 +78,10 @@ pub or-split : (a b : Bool) → (a || b) ≡ false → (a ≡ false) × (b ≡ f
 or-split true b e = clash refl e
 or-split false b e = (refl, e)
 
+pub not-or : (a b : Bool) → (not a && not b) ≡ not (a || b)
+not-or true b = refl
+not-or false b = refl
+
 pub eqb-same : (n : ℕ) → eqb n n ≡ true
 eqb-same n = eq-eqb n n refl
 

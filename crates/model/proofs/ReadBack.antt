@@ -6,7 +6,7 @@ use Prim.Native.Nat.{ℕ, zero, suc, _+_, _-_, _%_, _≤_, _<_}
 use native.Mathlib.Omega.{arith}
 use native.Mathlib.Nat.{mod-lt}
 use lib.ListN.{length, getD, set, replicate}
-use lib.Dec.{eqb, ltb, leb, lit≤, lit<}
+use lib.Dec.{eqb, ltb, lit≤, lit<}
 use borrow.Author.Tests.{ltb-true, ltb-false, leb-true, eqb-true, not-true}
 use Rattle.model.specs.Sizes.{objectPlaces, maxListed, word32, word64}
 use Rattle.model.specs.Basics.{joined, All}
@@ -32,7 +32,7 @@ reads-32 key n h = reads-number key n (omega arith) (omega arith) (lit≤ tt)
 reads-object : (h : ℕ) (x : Object) → 1 ≤ h → h ≤ objectPlaces → occupied x ≡ true → validObject x ≡ true → Reads readObject (objectText h x) (h, x)
 unfolding readObject readValues objectText wordLine after
 reads-object h empty l u o v = clash o refl
-reads-object h (semaphore c m) l u o v = let (t0, (t1, t2)) = passed (leb c m ∷ ltb m word32 ∷ []) v in let p = leb-true c m t0 in let q = ltb-true m word32 t1 in
+reads-object h (semaphore c m) l u o v = let (t0, (t1, t2)) = passed _ v in let p = leb-true c m t0 in let q = ltb-true m word32 t1 in
     reads-then _ (reads-number "handle=" h l u (lit≤ tt)) (reads-then {x = ascii "kind=sem\n"} _ (record { reads = λ rest. refl }) (reads-last (λ x. (h, x))
     (reads-then _ (reads-32 "count=" c (omega arith)) (reads-last (λ m. semaphore c m) (reads-32 "max=" m q)))))
 reads-object h (mutex o c a) l u i v = let (t0, (t1, t2)) = passed _ v in

@@ -1,21 +1,21 @@
 -- Refusals, and what the rules of one object keep.
-use mathlib.Core.Path.{_≡_, refl, sym, _∙_}
+use mathlib.Core.Path.{_≡_, refl, ap, sym, _∙_}
 use mathlib.Core.Bool.{Bool, true, false, not, _&&_, _||_, cond}
 use mathlib.Core.List.{List, [], _∷_}
 use mathlib.Core.Option.{none, some}
 use Prim.Native.Nat.{ℕ, zero, suc, pred, _+_, _<_}
 use native.Mathlib.Omega.{arith}
 use lib.ListN.{getD}
-use lib.Dec.{eqb, ltb, leb, eqb·suc-zero}
+use lib.Dec.{eqb, ltb, eqb·suc-zero}
 use borrow.Author.Tests.{ltb-true, ltb-false, eqb-true, eqb-false, not-false, lt-ltb, le-leb, ne-eqb}
 use Rattle.model.specs.Basics.{bit, All}
 use Rattle.model.specs.Calls.{Kind, aSemaphore, aMutex, anEvent, Signal, post, unlock, kill, setEvent, pulseEvent, Call, Refusal, signalRule, resetRule, badNew, newObject, lowestEmpty, newHandle, timeUp, change}
 use Rattle.model.specs.Layout.{validObject}
 use Rattle.model.specs.Sizes.{word32}
-use Rattle.model.specs.Objects.{Object, empty, semaphore, mutex, event, occupied, isEvent, signaled, cleared}
+use Rattle.model.specs.Objects.{Object, empty, semaphore, mutex, event, occupied, isEvent, signaled, neverSignaled, cleared}
 use Rattle.model.specs.Steps.{Outcome, unaltered, conditions, firstRefusal, completed, perform}
 use Rattle.model.specs.Waits.{Wait, State, objectAt, putObject, Woken}
-use Rattle.model.proofs.Logic.{byBool, byOption, clash, differ, _implies_, or-right, passed, pass}
+use Rattle.model.proofs.Logic.{byBool, byOption, clash, differ, _implies_, or-right, or-split, passed, pass}
 
 -- no refusal of the list holds
 abbrev pub Accepted : List Refusal → Type 0
@@ -54,7 +54,7 @@ post-keeps c m add e = record {
   was = refl;
   there = refl;
   event = λ z. z;
-  valid = λ g. let (t0, (t1, t2)) = passed (leb c m ∷ ltb m word32 ∷ []) g in pass _ (le-leb (c + add) m (ltb-false m (c + add) e), (t1, tt));
+  valid = λ g. let (t0, t1) = passed _ g in pass _ (le-leb (c + add) m (ltb-false m (c + add) e), t1);
 }
 
 unlock-keeps : (o c : ℕ) (a : Bool) → (o ≡ 0 → ⊥) → Keeps (mutex o c a) (mutex (cond (eqb c 1) 0 o) (pred c) a)
@@ -133,7 +133,7 @@ new-occupied aMutex x y = refl
 new-occupied anEvent x y = refl
 
 pub new-valid : (k : Kind) (x y : ℕ) → x < word32 → y < word32 → badNew k x y ≡ false → validObject (newObject k x y) ≡ true
-new-valid aSemaphore c m lx ly e = pass _ (le-leb c m (ltb-false m c e), (lt-ltb m word32 ly, tt))
+new-valid aSemaphore c m lx ly e = let r = or-split (ltb m c) (neverSignaled m) e in pass _ (le-leb c m (ltb-false m c (r .0)), (lt-ltb m word32 ly, (ap not (r .1), tt)))
 new-valid aMutex o c lx ly e = pass _ (lt-ltb o word32 lx, (lt-ltb c word32 ly, (not-false _ e, (refl, tt))))
 new-valid anEvent v m lx ly e = refl
 

@@ -9,7 +9,7 @@ use Prim.Native.String.{String}
 use native.Mathlib.Omega.{arith}
 use native.Mathlib.Nat.{le-refl, le-trans, suc-mul, mod-le}
 use lib.ListN.{length, getD, replicate, length-append}
-use lib.Dec.{eqb, ltb, leb, lit≤}
+use lib.Dec.{eqb, ltb, lit≤}
 use borrow.Author.Tests.{ltb-true, ltb-false, leb-true, eqb-true, eqb-false, not-true, not-false}
 use Rattle.model.specs.Basics.{bit, allOf, tabulate, joined}
 use Rattle.model.specs.Calls.{allOccupied}
@@ -75,7 +75,7 @@ event-most h s m = more-most (then-most (line-most "handle=" (itself h)) (then-m
 object-most : (h : ℕ) (x : Object) → validObject x ≡ true → Most (objectText h x) (length (digits h) + 65)
 unfolding objectText
 object-most h empty e = record { most = omega arith }
-object-most h (semaphore c m) e = let (t0, (t1, t2)) = passed (leb c m ∷ ltb m word32 ∷ []) e in let l = leb-true c m t0 in let b = ltb-true m word32 t1 in
+object-most h (semaphore c m) e = let (t0, (t1, t2)) = passed _ e in let l = leb-true c m t0 in let b = ltb-true m word32 t1 in
     more-most (then-most (line-most "handle=" (itself h)) (then-most (exact (ascii "kind=sem\n")) (then-most (line-most "count=" (short32 (omega arith))) (line-most "max=" (short32 b))))) (omega arith)
 object-most h (mutex o c a) e = let (t0, (t1, t2)) = passed _ e in
     more-most (then-most (line-most "handle=" (itself h)) (then-most (exact (ascii "kind=mutex\n")) (then-most (line-most "owner=" (short32 (ltb-true _ _ t0)))

@@ -11,12 +11,13 @@ use lib.ListN.{length, getD, set, take}
 use lib.Dec.{eqb}
 use Rattle.model.specs.Sizes.{objectPlaces, ticketsEnd, never, snapshotBuffer, longestSnapshot}
 use Rattle.model.specs.Basics.{corrupt, anyOf, allOf, member, hasRepeat, All, overwrite}
-use Rattle.model.specs.Objects.{Object, empty, occupied, signaled, cleared}
+use Rattle.model.specs.Objects.{Object, empty, semaphore, occupied, signaled, cleared}
 use Rattle.model.specs.Waits.{Mode, any, all, Wait, free, waiting, State, initial, objectAt, putAt, attempt}
 use Rattle.model.specs.Waits.{servable, wakeBySearch}
 use Rattle.model.specs.Snapshot.{line, snapshotText}
 use Rattle.model.specs.Calls.{wait, cancel, Lent, nothingLent, Call, asks, refusal, waitFaults, timeUp, newWait}
-use Rattle.model.specs.Calls.{Kind, create, newObject, pulseEvent, signal, waitsFull, change, WithinWidths}
+use Rattle.model.specs.Calls.{Kind, aSemaphore, create, newObject, post, pulseEvent, signal, waitsFull, change}
+use Rattle.model.specs.Calls.{WithinWidths}
 use Rattle.model.specs.Layout.{tableLength, encode, view, validState, validTables}
 use Rattle.model.specs.ValidCells.{ValidCells}
 use Rattle.model.specs.Steps.{Outcome, unaltered, conditions, firstRefusal, records, referenceStep, onTables}
@@ -34,6 +35,7 @@ use Rattle.model.proofs.History.{initial-settled}
 use Rattle.model.proofs.Literal.{test-lines, lines-test}
 use Rattle.model.proofs.Reports.{rising-once}
 use Rattle.model.proofs.Sleeps.{attempt-none}
+use Rattle.model.proofs.Semaphores.{tables-semaphore, tables-post}
 use Rattle.model.proofs.SnapshotLength.{snapshot-longest, snapshot-fits, longest, longest-length, longest-valid}
 use Rattle.model.proofs.Tables.{tables-refuse, tables-unknown, search-ends, tables-low, tables-refused}
 use Rattle.model.proofs.Tables.{tables-ended, tables-exactly, wait-queued}
@@ -367,3 +369,16 @@ same-replies t u v w s cs fit = tables-run-alike t u v w s cs fit
 pub places-reached : let t = encode (reached cancelledLate) in let u = encode (reached cancelledEarly) in
     (validTables t ≡ true) × (validTables u ≡ true) × SameButPlaces (view t) (view u) × (t ≡ u → ⊥)
 places-reached = tables-reached
+
+-- 12. A SEMAPHORE'S MAXIMUM IS NOT 0 (4/13). "Creating with maximum 0 is EINVAL from now on": on valid tables, where
+-- every place is in use too, creating a semaphore is answered 1 exactly if its count exceeds its maximum or that is 0.
+pub semaphore-refused : (t : List ℕ) → validTables t ≡ true → (count max : ℕ) (l : Lent)
+    → ((tableStep t (asks (create aSemaphore count max) l)) .answer ≡ 1) ↔ ((max < count) ⊎ (max ≡ 0))
+semaphore-refused t v count max l = tables-semaphore t v count max l
+
+-- So there are no "semaphores that can never be signaled": on valid tables a post of 1 to one whose count is 0 is
+-- answered 0.
+pub semaphore-signalable : (t : List ℕ) → validTables t ≡ true → (h max : ℕ)
+    → objectAt ((view t) .objects) h ≡ semaphore 0 max → (l : Lent) → let c = asks (signal (post 1) h) l in
+    LongEnough c → (tableStep t c) .answer ≡ 0
+semaphore-signalable t v h max e l = tables-post t v h max e l

@@ -8,7 +8,7 @@ use mathlib.Core.Logic.{inl, inr, ⊎-elim}
 use Prim.Native.Nat.{ℕ, zero, suc, pred, _+_, _^_, _≤_, _<_}
 use native.Mathlib.Omega.{arith}
 use lib.ListN.{length, getD, length-set}
-use lib.Dec.{eqb, ltb, leb, eqb·suc-zero}
+use lib.Dec.{eqb, ltb, eqb·suc-zero}
 use borrow.Author.Tests.{ltb-true, ltb-false, leb-true, leb-false, eqb-true, eqb-false, not-true, not-false, lt-ltb, le-leb, ne-eqb}
 use Rattle.model.specs.Basics.{anyOf, member, hasRepeat}
 use Rattle.model.specs.Calls.{Operation, create, close, resetEvent, read, signal, wait, expire, cancel, snapshot, Lent, Call, newObject, newHandle, allOccupied, repeats, waitFaults, timeUp, newWait, mustQueue, enqueue, refusals, Change, admits, endEach, change, WithinWidths}
@@ -37,7 +37,7 @@ pub record Valid (s : State) : Type 0 where
 -- ACQUIRING keeps an object valid
 acquired-valid : (o : ℕ) (x : Object) → (o ≡ 0 → ⊥) → o < 2 ^ 32 → signaled o x ≡ true → validObject x ≡ true → validObject (acquired o x) ≡ true
 acquired-valid o empty z l e g = g
-acquired-valid o (semaphore c m) z l e g = let (t0, (t1, t2)) = passed (leb c m ∷ ltb m word32 ∷ []) g in let b : c ≤ m = leb-true c m t0 in pass _ (le-leb (pred c) m (omega arith), (t1, tt))
+acquired-valid o (semaphore c m) z l e g = let (t0, t1) = passed _ g in let b : c ≤ m = leb-true c m t0 in pass _ (le-leb (pred c) m (omega arith), t1)
 acquired-valid o (mutex w c a) z l e g =
     let r = and-split (eqb w 0 || eqb w o) (ltb c mutexCeiling) e in let h : c < mutexCeiling = ltb-true c mutexCeiling (r .1) in
     pass _ (lt-ltb o word32 l, (lt-ltb (suc c) word32 (omega arith), (rw (ne-eqb o 0 z, eqb·suc-zero c), (refl, tt))))

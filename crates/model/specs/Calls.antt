@@ -7,7 +7,7 @@ use lib.Dec.{eqb, ltb, leb}
 use Rattle.model.specs.Sizes.{maxListed, word32, word64, never, ticketsEnd, wakeLength, snapshotBuffer}
 use Rattle.model.specs.Basics.{maybe, bit, anyOf, hasRepeat, All, Answer, number, done, invalid, notOwner}
 use Rattle.model.specs.Basics.{overflow, ownerDead, timedOut, interrupted, noRoom, ticketsSpent, busy, queued}
-use Rattle.model.specs.Objects.{Object, empty, semaphore, mutex, event, byKind, occupied, isEvent}
+use Rattle.model.specs.Objects.{Object, empty, semaphore, mutex, event, byKind, occupied, isEvent, neverSignaled}
 use Rattle.model.specs.Waits.{Mode, any, all, Wait, WaitPlace, free, waiting, State, withObjects, withWaits}
 use Rattle.model.specs.Waits.{withNext, objectAt, putObject, attempt, servable, acquireEach, servedAnswer}
 use Rattle.model.specs.Waits.{dequeue, oldest, anyWaiting, concernedBy, Report, Woken, noneWoken, andThen}
@@ -134,10 +134,10 @@ clearsAfter (kill o) h = 0
 clearsAfter setEvent h = 0
 clearsAfter pulseEvent h = h
 
--- CREATING. "Create: EINVAL if count exceeds maximum; for a mutex if exactly one of owner and count is 0. Event flags:
--- nonzero means 1."
+-- CREATING. "Create: EINVAL if count exceeds maximum" (4/13: or if that is 0); "for a mutex if exactly one of owner and
+-- count is 0. Event flags: nonzero means 1."
 abbrev pub badNew : Kind → ℕ → ℕ → Bool
-badNew aSemaphore c m = ltb m c
+badNew aSemaphore c m = ltb m c || neverSignaled m
 badNew aMutex o c = not (eqb (bit (eqb o 0)) (bit (eqb c 0)))
 badNew anEvent s m = false
 

@@ -6,7 +6,7 @@ use lib.ListN.{length, getD, replicate, take}
 use lib.Dec.{eqb, ltb, leb}
 use Rattle.model.specs.Sizes.{objectPlaces, waitPlaces, maxListed, word32, word64}
 use Rattle.model.specs.Basics.{bit, allOf, tabulate, joined}
-use Rattle.model.specs.Objects.{Object, empty, semaphore, mutex, event, isEvent}
+use Rattle.model.specs.Objects.{Object, empty, semaphore, mutex, event, isEvent, neverSignaled}
 use Rattle.model.specs.Waits.{Mode, any, all, Wait, WaitPlace, free, waiting, State, objectAt, anyWaiting}
 use Rattle.model.specs.Calls.{listTooShort, allOccupied, repeats}
 
@@ -78,10 +78,11 @@ view t = record {
 }
 
 -- VALIDITY, as a test; ValidCells.antt has document 01's list line by line, proved equivalent. "a semaphore's count is
--- at most its maximum; a mutex's owner is 0 exactly when its count is 0; an abandoned mutex has owner 0"; ranges
+-- at most its maximum", which is not 0 (4/13); "a mutex's owner is 0 exactly when its count is 0; an abandoned mutex
+-- has owner 0"; ranges
 abbrev pub validObject : Object → Bool
 validObject empty = true
-validObject (semaphore c m) = allOf (leb c m ∷ ltb m word32 ∷ [])
+validObject (semaphore c m) = allOf (leb c m ∷ ltb m word32 ∷ not (neverSignaled m) ∷ [])
 validObject (mutex o c a) =
     allOf (ltb o word32 ∷ ltb c word32 ∷ eqb (bit (eqb o 0)) (bit (eqb c 0)) ∷ (not a || eqb o 0) ∷ [])
 validObject (event s m) = true

@@ -35,6 +35,11 @@ signaled asking (semaphore c m) = ltb 0 c
 signaled asking (mutex o c a) = (eqb o 0 || eqb o asking) && ltb c mutexCeiling
 signaled asking (event s m) = s
 
+-- 4/13, "Semaphores that can never be signaled", by their maximum. "Creating with maximum 0 is EINVAL from now on
+-- (house), and tables holding such a semaphore are damaged."
+abbrev pub neverSignaled : (max : ℕ) → Bool
+neverSignaled m = eqb m 0
+
 -- "Acquiring: a semaphore loses one; a mutex gains one and takes the owner, and is no longer abandoned; an auto-reset
 -- event clears; a manual-reset event stays. Acquiring hands back the object's next state" (this) "and whether it had
 -- been abandoned" (`abandoned`).

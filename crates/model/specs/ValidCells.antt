@@ -25,6 +25,8 @@ pub record ValidObject (kind count owner attribute : ℕ) : Type 0 where
   pub zeros : kind ≡ 0 → (count ≡ 0) × (owner ≡ 0) × (attribute ≡ 0)
   -- "a semaphore's count is at most its maximum"
   pub semaphore : kind ≡ 1 → (count ≤ attribute) × (attribute < word32) × (owner ≡ 0)
+  -- 4/13: "maximum 0 .. tables holding such a semaphore are damaged"
+  pub maximum : kind ≡ 1 → 1 ≤ attribute
   -- "a mutex's owner is 0 exactly when its count is 0; an abandoned mutex has owner 0"
   pub mutex : kind ≡ 2 → (owner < word32) × (count < word32) × (attribute ≤ 1)
   pub unowned : kind ≡ 2 → (owner ≡ 0 → count ≡ 0) × (count ≡ 0 → owner ≡ 0)

@@ -18,11 +18,11 @@ use ntsync::Written;
 use signals::Changed;
 
 // It rises with every change of a signature or of an argument's meaning; the header has the same number.
-pub const VERSION: u32 = 3;
+pub const VERSION: u32 = 4;
 
 #[no_mangle]
 pub extern "C" fn ntsync_version() -> u32
-    ensures { λ r. ⌜ r ≡ 3 ⌝ }
+    ensures { λ r. ⌜ r ≡ 4 ⌝ }
 {
     VERSION
 }

@@ -14,7 +14,7 @@ use native.Mathlib.Nat.{mod-lt, mod-eq-of-lt}
 use borrow.Author.Tests.{lt-ltb, eq-eqb, ne-eqb, eqb-true, eqb-false, ltb-true, ltb-false}
 use Rattle.model.specs.Basics.{bit, hasRepeat}
 use Rattle.model.specs.Sizes.{objectPlaces}
-use Rattle.model.proofs.Logic.{byBool, clash, not-true, not-false}
+use Rattle.model.proofs.Logic.{byBool, clash, not-true, not-false, not-or}
 use Rattle.cells.specs.Fold.{foldBelow, allBelow, someBelow, orBelow}
 use Rattle.cells.specs.Objects.{named}
 use Rattle.cells.specs.Waits.{has}
@@ -85,10 +85,6 @@ module _ (f : ℕ → ℕ) where
   flag-not : (b : Bool) → eqb (bit b) 0 ≡ not b
   flag-not true = refl
   flag-not false = refl
-
-  not-or : (a b : Bool) → (not a && not b) ≡ not (a || b)
-  not-or true b = refl
-  not-or false b = refl
 
   fresh-once : ((k : ℕ) → f k < marks) → (n : ℕ) → allBelow (freshAt f) n ≡ not (someBelow (λ k. someBelow (λ j. eqb (f j) (f k)) k) n)
   unfolding foldBelow

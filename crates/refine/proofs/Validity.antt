@@ -13,11 +13,11 @@ use borrow.Author.Tests.{ltb-true, ltb-false, leb-true, eqb-true, eqb-false, not
 use Rattle.model.specs.Basics.{queued, bit, member}
 use Rattle.model.specs.Layout.{headerSize, waitSize, tableLength, inObject, inWait, validTables}
 use Rattle.model.specs.Sizes.{objectPlaces, waitPlaces, maxListed, word32, word64}
-use Rattle.model.specs.Objects.{semaphore, mutex, event, occupied, abandoned}
+use Rattle.model.specs.Objects.{semaphore, mutex, event, occupied, abandoned, neverSignaled}
 use Rattle.model.specs.ValidCells.{Occupied, OfEvent, ValidObject, ValidWait, ValidCells}
 use Rattle.model.specs.Waits.{free}
 use Rattle.model.proofs.Logic.{byBool, clash, same-tests, or-left, or-right, or-split, passed, pass, member-at, at-member}
-use Rattle.model.proofs.Literal.{same-zero, zero-same, byNumber, repeat-once, once-repeat, test-lines, lines-test}
+use Rattle.model.proofs.Literal.{same-zero, zero-same, has-maximum, maximum-has, byNumber, repeat-once, once-repeat, test-lines, lines-test}
 use Rattle.cells.specs.Waits.{waitCell, ticketAt, modeAt, ownerAt, clockAt, countAt, alertAt, listOf, has}
 use Rattle.cells.specs.Objects.{Fields, noFields, fieldsAt, named}
 use Rattle.cells.specs.Validity.{validFields, occupiedAt, eventAt, tooFew, occupiedList, repeatedList, unusedZero, aloneAt, validQueued, validFree, validPlace, validCells}
@@ -36,16 +36,18 @@ lines-to x e = byBool (eqb (x .kind) 0)
       kinds = omega arith;
       zeros = λ q. (eqb-true _ _ t0, eqb-true _ _ t1, eqb-true _ _ t2);
       semaphore = λ q. absurd (let z : ⊥ = omega arith in z);
+      maximum = λ q. absurd (let z : ⊥ = omega arith in z);
       mutex = λ q. absurd (let z : ⊥ = omega arith in z);
       unowned = λ q. absurd (let z : ⊥ = omega arith in z);
       abandoned = λ q. absurd (let z : ⊥ = omega arith in z);
       event = λ q. absurd (let z : ⊥ = omega arith in z);
     })
     (λ n0. byBool (eqb (x .kind) 1)
-    (λ y1. let (t0, (t1, (t2, r))) = passed (leb (x .count) (x .attribute) ∷ ltb (x .attribute) word32 ∷ eqb (x .owner) 0 ∷ []) (rw (n0, y1) at e) in let k : x .kind ≡ 1 = eqb-true _ _ y1 in record {
+    (λ y1. let (t0, (t1, (t2, (t3, r)))) = passed (leb (x .count) (x .attribute) ∷ ltb (x .attribute) word32 ∷ not (neverSignaled (x .attribute)) ∷ eqb (x .owner) 0 ∷ []) (rw (n0, y1) at e) in let k : x .kind ≡ 1 = eqb-true _ _ y1 in record {
       kinds = omega arith;
       zeros = λ q. absurd (let z : ⊥ = omega arith in z);
-      semaphore = λ q. (leb-true _ _ t0, ltb-true _ _ t1, eqb-true _ _ t2);
+      semaphore = λ q. (leb-true _ _ t0, ltb-true _ _ t1, eqb-true _ _ t3);
+      maximum = λ q. has-maximum (x .attribute) t2;
       mutex = λ q. absurd (let z : ⊥ = omega arith in z);
       unowned = λ q. absurd (let z : ⊥ = omega arith in z);
       abandoned = λ q. absurd (let z : ⊥ = omega arith in z);
@@ -57,6 +59,7 @@ lines-to x e = byBool (eqb (x .kind) 0)
       kinds = omega arith;
       zeros = λ q. absurd (let z : ⊥ = omega arith in z);
       semaphore = λ q. absurd (let z : ⊥ = omega arith in z);
+      maximum = λ q. absurd (let z : ⊥ = omega arith in z);
       mutex = λ q. (ltb-true _ _ t0, ltb-true _ _ t1, leb-true _ _ t2);
       unowned = λ q. same-zero (x .owner) (x .count) t3;
       abandoned = λ q a. eqb-true _ _ (let f : eqb (x .attribute) 0 ≡ false = ne-eqb (x .attribute) 0 (λ z. let y : ⊥ = omega arith in y) in rw f at t4);
@@ -67,6 +70,7 @@ lines-to x e = byBool (eqb (x .kind) 0)
       kinds = omega arith;
       zeros = λ q. absurd (let z : ⊥ = omega arith in z);
       semaphore = λ q. absurd (let z : ⊥ = omega arith in z);
+      maximum = λ q. absurd (let z : ⊥ = omega arith in z);
       mutex = λ q. absurd (let z : ⊥ = omega arith in z);
       unowned = λ q. absurd (let z : ⊥ = omega arith in z);
       abandoned = λ q. absurd (let z : ⊥ = omega arith in z);
@@ -78,7 +82,7 @@ lines-from : (x : Fields) → ValidObject (x .kind) (x .count) (x .owner) (x .at
 unfolding validFields
 lines-from x v = byNumber (x .kind) (v .kinds)
     (λ e. let r = v .zeros e in rw e (pass _ (eq-eqb _ _ (r .0), (eq-eqb _ _ (r .1), (eq-eqb _ _ (r .2), tt)))))
-    (λ e. let r = v .semaphore e in rw e (pass _ (le-leb _ _ (r .0), (lt-ltb _ _ (r .1), (eq-eqb _ _ (r .2), tt)))))
+    (λ e. let r = v .semaphore e in rw e (pass _ (le-leb _ _ (r .0), (lt-ltb _ _ (r .1), (maximum-has _ (v .maximum e), (eq-eqb _ _ (r .2), tt))))))
     (λ e. let r = v .mutex e in let u = v .unowned e in rw e (pass _ (
       lt-ltb _ _ (r .0),
       (

@@ -1,7 +1,7 @@
 //! The functions of libntsync.a as include/ntsync.h declares them; hosts/abi/check compares the two.
 
 /// Rises with every change of a signature or of an argument's meaning.
-pub const VERSION: u32 = 3;
+pub const VERSION: u32 = 4;
 /// Cells of the tables.
 pub const CELLS: usize = 2785;
 /// Objects at most; handles are 1 to 128.

@@ -243,13 +243,15 @@ impl Tables {
     ///
     /// # Errors
     ///
-    /// [`Refusal::Corrupt`]; [`Refusal::Invalid`] if `count` exceeds `max`; [`Refusal::NoRoom`] if all places are in use.
+    /// [`Refusal::Corrupt`]; [`Refusal::Invalid`] if `count` exceeds `max`, or if `max` is 0: it could never be signaled;
+    /// [`Refusal::NoRoom`] if all places are in use.
     ///
     /// ```
     /// use ntsync::{Handle, Refusal, Tables};
     /// let mut tables = Tables::new();
     /// assert_eq!(tables.create_sem(1, 2), Ok(Handle(1)));
     /// assert_eq!(tables.create_sem(3, 2), Err(Refusal::Invalid));
+    /// assert_eq!(tables.create_sem(0, 0), Err(Refusal::Invalid));
     /// ```
     pub fn create_sem(&mut self, count: u32, max: u32) -> Result<Handle, Refusal> {
         // SAFETY: the cells are borrowed alone and passed with their number.

@@ -145,8 +145,10 @@ impl Shown {
         let ordered = unless(Slip::HandlesUnordered, handles) && unless(Slip::TicketsUnordered, tickets);
         let right = self.sums[0] == self.sums[1] && ordered;
         let state = self.placed(slip == Some(Slip::PlacedFromEnd));
-        let good =
-            right && unless(Slip::UnsoundAccepted, sound(&state)) && unless(Slip::ServableAccepted, quiet(&state));
+        let good = right
+            && unless(Slip::UnsoundAccepted, sound(&state))
+            && unless(Slip::ZeroMaximumAccepted, !state.objects.iter().flatten().any(never_signaled))
+            && unless(Slip::ServableAccepted, quiet(&state));
         good.then_some(state)
     }
 
@@ -161,6 +163,11 @@ impl Shown {
         }
         state
     }
+}
+
+/// "Semaphores that can never be signaled" (4/13).
+fn never_signaled(object: &Object) -> bool {
+    matches!(object, Object::Semaphore { max: 0, .. })
 }
 
 /// Document 01's "Sound tables", as far as the lines leave it open.

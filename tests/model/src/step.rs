@@ -31,6 +31,12 @@ pub enum Slip {
     EmptyAnyRefused,
     /// A wait for all over nothing is let pass.
     EmptyAllPasses,
+    /// A semaphore of maximum 0 is created, as before 4/13.
+    ZeroMaximumCreated,
+    /// A maximum of 1 is refused too.
+    MaximumOneRefused,
+    /// A count of 0 is refused.
+    CountZeroRefused,
     /// Of a text that is read back: the sum begins with 1.
     SumFromOne,
     /// The offset is that of the line behind the bad one.
@@ -49,6 +55,8 @@ pub enum Slip {
     UnsoundAccepted,
     /// The waits fill the wait places from the last one down.
     PlacedFromEnd,
+    /// A semaphore's maximum may be 0, as before 4/13.
+    ZeroMaximumAccepted,
 }
 
 pub struct Model {
@@ -171,7 +179,7 @@ impl Model {
 
     fn bad_argument(&self, call: &Call) -> bool {
         match *call {
-            Call::Sem { count, max } => count > max,
+            Call::Sem { count, max } => self.bad_semaphore(count, max),
             Call::Mutex { owner, count } => (owner == 0) != (count == 0),
             Call::Event { .. } | Call::Picture { .. } | Call::Restore { .. } => false,
             Call::Close { handle } => self.object(handle).is_none(),
@@ -195,6 +203,16 @@ impl Model {
             Call::Expire { clock, .. } => clock > 1,
             Call::Cancel { ticket } => !self.state.queued().any(|wait| wait.ticket == ticket),
         }
+    }
+
+    /// One of maximum 0 could never be signaled (4/13).
+    fn bad_semaphore(&self, count: u32, max: u32) -> bool {
+        let least = match self.slip {
+            Some(Slip::ZeroMaximumCreated) => 0,
+            Some(Slip::MaximumOneRefused) => 2,
+            _ => 1,
+        };
+        max < least || count > max || (count == 0 && self.has_slip(Slip::CountZeroRefused))
     }
 
     /// A wait for any may have no objects (1/13).

@@ -28,7 +28,7 @@ pub const ANSWERS: [(&str, &[u32]); 19] = [
     ("restore", &[0, 13]),
 ];
 
-const SITUATIONS: [&str; 92] = [
+const SITUATIONS: [&str; 95] = [
     "queue filled to 32",
     "no room with tickets spent",
     "served with the queue full",
@@ -48,6 +48,9 @@ const SITUATIONS: [&str; 92] = [
     "unlock to zero wakes",
     "mutex reached the ceiling",
     "semaphore reached 2^32-1",
+    "maximum 0 refused",
+    "maximum 0 refused with every place in use",
+    "maximum 1 created with count 0",
     "post of 0",
     "post of 0 with waits queued on it",
     "post past 2^32-1",
@@ -227,9 +230,14 @@ impl Coverage {
         if let Some(handle) = call.handle() {
             self.observe_handle(before, call, handle, outcome);
         }
+        let created = matches!(call, Call::Sem { .. } | Call::Mutex { .. } | Call::Event { .. });
+        self.met("128th object created", created && done && outcome.numbers[0] == 128);
         match *call {
-            Call::Sem { .. } | Call::Mutex { .. } | Call::Event { .. } => {
-                self.met("128th object created", done && outcome.numbers[0] == 128);
+            Call::Sem { count, max } => {
+                let (refused, full) = (outcome.answer == 1, after.objects.iter().all(Option::is_some));
+                self.met("maximum 0 refused", refused && max == 0);
+                self.met("maximum 0 refused with every place in use", refused && max == 0 && full);
+                self.met("maximum 1 created with count 0", done && (count, max) == (0, 1));
             }
             Call::Post { handle, add, .. } => {
                 self.met("post wakes several", several);

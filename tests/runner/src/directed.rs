@@ -21,7 +21,7 @@ pub struct Case {
 pub type Done = Result<(), String>;
 type Test = (&'static str, fn(&mut Case) -> Done);
 
-const TESTS: [Test; 48] = [
+const TESTS: [Test; 49] = [
     ("P1, P2 and the picture", p1_p2),
     ("P3, P4", p3_p4),
     ("P5, P6", p5_p6),
@@ -34,6 +34,7 @@ const TESTS: [Test; 48] = [
     ("the 129th object", object_129),
     ("lists of 0, 1, 63, 64, 65", lists),
     ("an empty list, ended each way", empty_lists),
+    ("maximums of 0 and 1", maximums),
     ("the 33rd wait", wait_33),
     ("tickets spent at 2^64-1", tickets_spent),
     ("the last ticket, 2^64-2", last_ticket),
@@ -334,6 +335,22 @@ fn empty_lists(case: &mut Case) -> Done {
     case.answers(all(7, 0, NEVER, &[]), 1)
 }
 
+/// 4/13: no semaphore of maximum 0; one of maximum 1 starts with either count, and is signaled by a post.
+fn maximums(case: &mut Case) -> Done {
+    for count in [0, 1, MAX] {
+        case.answers(sem(count, 0), 1)?;
+    }
+    case.create(&[sem(0, 1), sem(1, 1), sem(0, MAX)])?;
+    case.queues(any(7, 0, NEVER, &[1]), 1)?;
+    case.answers(post(1, 2), 3)?;
+    case.wakes(post(1, 1), 0, &[(1, 0, 0)])?;
+    case.reads(Call::ReadSem { handle: 1 }, 0, 1)?;
+    case.answers(post(2, 1), 3)?;
+    case.answers(any(7, 0, 0, &[2]), 0)?;
+    case.wakes(post(2, 1), 0, &[])?;
+    case.reads(Call::ReadSem { handle: 2 }, 1, 1)
+}
+
 fn wait_33(case: &mut Case) -> Done {
     case.create(&[event(0, 1), event(1, 1)])?;
     case.fill_queue(&any(1, 0, NEVER, &[1]))?;
@@ -373,8 +390,8 @@ fn last_ticket(case: &mut Case) -> Done {
 // The order of refusals.
 
 fn short_first(case: &mut Case) -> Done {
-    case.create(&[sem(0, 0), mutex(5, 1)])?;
-    for call in [post(9, 1), post(1, 1), unlock(2, 0), unlock(2, 6), kill(1, 0), set(1), pulse(0), expire(2, 0)] {
+    case.create(&[sem(0, 1), mutex(5, 1)])?;
+    for call in [post(9, 1), post(1, 2), unlock(2, 0), unlock(2, 6), kill(1, 0), set(1), pulse(0), expire(2, 0)] {
         case.answers(with_wake(call, WAKE_CELLS - 1), 12)?;
     }
     case.answers(Call::Picture { bytes: PICTURE_BYTES - 1 }, 12)
@@ -388,6 +405,7 @@ fn argument_first(case: &mut Case) -> Done {
     case.answers(kill(1, 6), 2)?;
     case.answers(post(1, MAX), 1)?;
     case.answers(sem(2, 1), 1)?;
+    case.answers(sem(0, 0), 1)?;
     case.answers(mutex(1, 0), 1)?;
     case.answers(mutex(0, 1), 1)?;
     case.answers(sem(1, 1), 7)?;

@@ -12,13 +12,14 @@ const WAIT_CELLS: usize = 71;
 pub const LIST_AT: usize = 7;
 const LONGEST_LIST: usize = 64;
 
-/// How each line of "Sound tables" can be broken, clause by clause.
-pub const LINES: [&str; 17] = [
+/// How each line of "Sound tables", with the changes 1/13 and 4/13, can be broken, clause by clause.
+pub const LINES: [&str; 18] = [
     "another length",
     "a cell out of its range",
     "an empty place not zeros",
     "an unused list cell not zero",
     "count above the maximum",
+    "a maximum of 0",
     "owner 0 with a count, or no count with an owner",
     "abandoned with an owner",
     "an event's flag neither 0 nor 1",
@@ -81,6 +82,7 @@ fn judge_object(cells: &[u64], lines: &mut Vec<&'static str>) {
         1 => {
             note(lines, "a cell out of its range", owner != 0 || wide(attribute));
             note(lines, "count above the maximum", count > attribute);
+            note(lines, "a maximum of 0", attribute == 0);
         }
         2 => {
             note(lines, "a cell out of its range", wide(count) || wide(owner) || attribute > 1);

@@ -49,7 +49,7 @@ fn case(line: Option<&'static str>, sound: &[u64], edits: Edits) -> Case {
 /// Place 0: any of 6, 6 with alert 3. Place 1: all of 6, 2. Place 2: all of 6, 5 with alert 3.
 fn calls() -> Vec<Call> {
     vec![
-        sem(1, 2),
+        sem(2, 3),
         mutex(7, 2),
         event(0, 0),
         mutex(3, 1),
@@ -79,33 +79,38 @@ fn object_rows() -> Vec<Row> {
     let of = |handle: usize, cell: usize| move |value: u64| in_object(handle, cell, value);
     let range = Some("a cell out of its range");
     let count = Some("count above the maximum");
+    let maximum = Some("a maximum of 0");
     let owner = Some("owner 0 with a count, or no count with an owner");
     let flag = Some("an event's flag neither 0 nor 1");
     [
         rows(range, of(9, KIND), &[4, 5, 255, LARGE + 1, u64::MAX]),
         rows(range, of(1, HOLDER), &[1, LARGE, u64::MAX]),
-        rows(range, of(1, ATTRIBUTE), &[LARGE, LARGE + 2, u64::MAX]),
+        rows(range, of(1, ATTRIBUTE), &[LARGE, LARGE + 3, u64::MAX]),
         rows(range, of(2, COUNT), &[LARGE, LARGE + 2, u64::MAX]),
         rows(range, of(2, HOLDER), &[LARGE, LARGE + 7, u64::MAX]),
         rows(range, of(4, ATTRIBUTE), &[2, LARGE, LARGE + 1, u64::MAX]),
         rows(range, of(3, HOLDER), &[1, LARGE, u64::MAX]),
-        rows(count, of(1, COUNT), &[3, 4, LARGE - 1, LARGE, LARGE + 1, u64::MAX]),
-        rows(count, of(1, ATTRIBUTE), &[0]),
+        rows(count, of(1, COUNT), &[4, 5, LARGE - 1, LARGE, LARGE + 1, u64::MAX]),
+        rows(count, of(1, ATTRIBUTE), &[1]),
+        rows(maximum, of(6, ATTRIBUTE), &[0]),
+        rows(maximum, of(9, KIND), &[1]),
+        rows(maximum, of(128, KIND), &[1]),
         rows(owner, of(2, HOLDER), &[0]),
         rows(owner, of(2, COUNT), &[0]),
         rows(owner, of(4, COUNT), &[1, LARGE - 1]),
         rows(Some("abandoned with an owner"), of(2, ATTRIBUTE), &[1]),
         rows(flag, of(3, COUNT), &[2, LARGE, LARGE + 1, u64::MAX]),
         rows(flag, of(3, ATTRIBUTE), &[2, LARGE, LARGE + 1, u64::MAX]),
-        rows(None, of(1, COUNT), &[0, 2]),
-        rows(None, of(1, ATTRIBUTE), &[1, LARGE - 1]),
+        rows(None, of(1, COUNT), &[0, 3]),
+        rows(None, of(1, ATTRIBUTE), &[2, LARGE - 1]),
+        rows(None, of(6, ATTRIBUTE), &[1]),
         rows(None, of(2, COUNT), &[1, LARGE - 1]),
         rows(None, of(2, HOLDER), &[1, LARGE - 1]),
         rows(None, of(4, ATTRIBUTE), &[0]),
         rows(None, of(3, COUNT), &[1]),
         rows(None, of(3, ATTRIBUTE), &[1]),
-        rows(None, of(9, KIND), &[1, 2, 3]),
-        rows(None, of(128, KIND), &[1, 2, 3]),
+        rows(None, of(9, KIND), &[2, 3]),
+        rows(None, of(128, KIND), &[2, 3]),
     ]
     .concat()
 }

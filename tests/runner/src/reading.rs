@@ -263,7 +263,8 @@ pub fn ranges_of_objects(case: &mut Case) -> Done {
             (97, "handle=9\n", "handle=129\n", At(97)),
             (35, "count=0\nmax=5\n", "count=0\nmax=4294967295\n", Accepted),
             (35, "count=0\nmax=5\n", "count=0\nmax=4294967296\n", At(43)),
-            (35, "count=0\nmax=5\n", "count=0\nmax=0\n", Accepted),
+            (35, "count=0\nmax=5\n", "count=0\nmax=0\n", WHOLE),
+            (35, "count=0\nmax=5\n", "count=0\nmax=1\n", Accepted),
             (35, "count=0\nmax=5\n", "count=4294967295\nmax=5\n", WHOLE),
             (35, "count=0\nmax=5\n", "count=4294967296\nmax=5\n", At(35)),
             (69, "owner=7\ncount=2\n", "owner=4294967295\ncount=4294967295\n", Accepted),
@@ -368,6 +369,9 @@ pub fn objects_alone(case: &mut Case) -> Done {
     let sem = |values: &str| format!("handle=1\nkind=sem\n{values}");
     let mutex = |values: &str| format!("handle=1\nkind=mutex\n{values}");
     let rows = [
+        (sem("count=0\nmax=0\n"), WHOLE),
+        (sem("count=1\nmax=0\n"), WHOLE),
+        (sem("count=0\nmax=1\n"), Accepted),
         (sem("count=1\nmax=1\n"), Accepted),
         (sem("count=2\nmax=1\n"), WHOLE),
         (sem("count=4294967295\nmax=4294967294\n"), WHOLE),

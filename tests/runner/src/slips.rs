@@ -13,7 +13,7 @@ const SEED: u64 = 5;
 /// In which each slip must be found.
 const CALLS: u64 = 200_000;
 
-const SLIPS: [(Slip, &str); 16] = [
+const SLIPS: [(Slip, &str); 20] = [
     (Slip::UnlockWakesAtZero, "unlock wakes only at zero"),
     (Slip::KeepPartOfAll, "part of a wait for all kept"),
     (Slip::OwnerDeadRefuses, "EOWNERDEAD refuses"),
@@ -21,6 +21,9 @@ const SLIPS: [(Slip, &str); 16] = [
     (Slip::HandleZeroNames, "handle 0 names an object"),
     (Slip::EmptyAnyRefused, "empty list refused for any"),
     (Slip::EmptyAllPasses, "empty list let pass for all"),
+    (Slip::ZeroMaximumCreated, "maximum 0 created"),
+    (Slip::MaximumOneRefused, "maximum 1 refused"),
+    (Slip::CountZeroRefused, "count 0 refused"),
     (Slip::SumFromOne, "sum from 1"),
     (Slip::OffsetLate, "offset one line late"),
     (Slip::LeadingZero, "leading zero accepted"),
@@ -30,9 +33,10 @@ const SLIPS: [(Slip, &str); 16] = [
     (Slip::ServableAccepted, "servable wait accepted"),
     (Slip::UnsoundAccepted, "unsound state accepted"),
     (Slip::PlacedFromEnd, "waits placed from the end"),
+    (Slip::ZeroMaximumAccepted, "maximum 0 accepted"),
 ];
 /// From here on they are slips of reading.
-const READING: usize = 7;
+const READING: usize = 10;
 
 pub fn run(limits: Limits) -> Result<String, String> {
     let seed = limits.seed.unwrap_or(SEED);

@@ -54,7 +54,7 @@ fn p1_calls() -> Vec<Call> {
 fn full_calls() -> Vec<Call> {
     let mut calls: Vec<Call> = (0..OBJECTS as u32)
         .map(|place| match place % 4 {
-            0 => sem(0, place),
+            0 => sem(0, place + 1),
             1 => mutex(place, u32::MAX - place),
             2 => event(0, 0),
             _ => event(0, 1),

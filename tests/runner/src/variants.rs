@@ -33,6 +33,7 @@ fn objects(held: Option<Object>) -> Vec<Option<Object>> {
     let mut objects = vec![
         semaphore(0, 0),
         semaphore(1, 0),
+        semaphore(0, 1),
         semaphore(1, 1),
         semaphore(u32::MAX, u32::MAX),
         semaphore(u32::MAX, u32::MAX - 1),

@@ -23,6 +23,7 @@ fn object_places_run_out() {
     refused(&mut tables, Refusal::NoRoom, |t, _| t.create_mutex(Owner::NOBODY, 0));
     refused(&mut tables, Refusal::NoRoom, |t, _| t.create_event(false, false));
     refused(&mut tables, Refusal::Invalid, |t, _| t.create_sem(2, 1));
+    refused(&mut tables, Refusal::Invalid, |t, _| t.create_sem(0, 0));
     assert_eq!(tables.post(LAST, 1, &mut WakeList::new()).unwrap().previous, 0);
 }
 

@@ -21,8 +21,23 @@ fn three_objects() -> Tables {
 fn create_refuses_numbers_that_do_not_fit() {
     let (mut tables, _) = empty();
     refused(&mut tables, Refusal::Invalid, |t, _| t.create_sem(2, 1));
+    refused(&mut tables, Refusal::Invalid, |t, _| t.create_sem(1, 0));
     refused(&mut tables, Refusal::Invalid, |t, _| t.create_mutex(Owner(5), 0));
     refused(&mut tables, Refusal::Invalid, |t, _| t.create_mutex(Owner::NOBODY, 1));
+}
+
+#[test]
+fn a_semaphore_that_could_never_be_signaled_is_refused() {
+    let (mut tables, mut wake) = empty();
+    refused(&mut tables, Refusal::Invalid, |t, _| t.create_sem(0, 0));
+    assert_eq!(tables.create_sem(0, 1), Ok(SEM));
+    assert_eq!(tables.post(SEM, 1, &mut wake).unwrap().previous, 0);
+    // A maximum of 0 in cells is corrupt: the fourth cell of the first object place.
+    let mut cells = *empty().0.cells();
+    cells[1] = 1;
+    refused(Tables::over(&mut cells), Refusal::Corrupt, |t, _| t.read_sem(SEM));
+    cells[4] = 1;
+    assert!(Tables::over(&mut cells).read_sem(SEM).is_ok());
 }
 
 #[test]

@@ -151,11 +151,14 @@ fn lines_as_due_that_are_wrong_together_have_offset_0() {
         assert!(Tables::restore(with_sum(&good)).is_ok(), "{good}");
     }
     // In each pair the order does not rise, or a number stands twice; then a ticket that was not given, a wait that could be
-    // served, a count over its maximum.
+    // served, a count over its maximum, a maximum of 0.
     for bad in [two(2, 1), two(1, 1), queue(2, 1), queue(1, 1), queue(1, 9), on_event(1)] {
         refused(with_sum(&bad), 0);
     }
-    refused(with_sum("next=1 objects=1 handle=1 kind=sem count=2 max=1 waits=0"), 0);
+    let sem = |count, max| with_sum(&format!("next=1 objects=1 handle=1 kind=sem count={count} max={max} waits=0"));
+    assert!(Tables::restore(sem(0, 1)).is_ok());
+    refused(sem(2, 1), 0);
+    refused(sem(0, 0), 0);
     let text = text_of(&board());
     refused(format!("{text}\n"), 0);
     refused(format!("{text}{text}"), 0);
