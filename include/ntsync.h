@@ -25,7 +25,7 @@
  * What it needs and costs; hosts/costs/check compares each figure with the archive.
  *   Platform: x86-64, System V calling convention, ELF. Links without libc but for memcpy and memset. Uses SSE registers
  *   (xmm), none wider and no x87: an interrupt handler or kernel that calls it must save them.
- *   Memory: tables 22,280 bytes, wake list 768 bytes, snapshot buffer 32,768 bytes, all the host's. The archive has 19,043
+ *   Memory: tables 22,280 bytes, wake list 768 bytes, snapshot buffer 32,768 bytes, all the host's. The archive has 19,073
  *   bytes of code and constants, no data, no bss.
  *   Stack at worst, in bytes, with the return address and the arguments that the caller pushes, without what memcpy and
  *   memset take below their return address; there is no recursion:
@@ -34,8 +34,8 @@
  *     ntsync_unlock 808, ntsync_kill_owner 808, ntsync_set 792, ntsync_reset 416, ntsync_pulse 808, ntsync_wait_any 1,616,
  *     ntsync_wait_all 1,616, ntsync_expire 448, ntsync_cancel 432, ntsync_snapshot 480, ntsync_restore 23,856 (it reads the
  *     text into cells of its own, and alters the tables only when all of it is accepted).
- *   Time, in instructions at worst of the scenarios of docs/BENCH.md: the check of all cells 35,077; a call with its check
- *   160,832 (a post that wakes 32 waits for all of 64 objects), the snapshot of full tables 185,942, its restoring 525,943.
+ *   Time, in instructions at worst of the scenarios of docs/BENCH.md: the check of all cells 35,165; a call with its check
+ *   161,217 (a post that wakes 32 waits for all of 64 objects), the snapshot of full tables 186,030, its restoring 526,031.
  *
  * Saving. What must outlive a power cut is saved as a snapshot, which ntsync_restore reads back; docs/howto/saving.md has the
  * program. The sum in its last line shows every cut and every single changed byte, but not two exchanged digits: against more
