@@ -88,6 +88,7 @@ fn making(empty: &Start, typical: &Start, full: &Start) -> Vec<Scenario> {
         row(typical, Call::CreateSem(1, 2), "place 41", DONE, 41, 0),
         row(room, Call::CreateSem(1, 2), "last place", DONE, 128, 0),
         row(full, Call::CreateSem(1, 2), "no room", NO_ROOM, 0, 0),
+        row(full, Call::CreateSem(0, 0), "maximum 0", EINVAL, 0, 0),
         row(typical, Call::CreateMutex(5, 1), "place 41", DONE, 41, 0),
         row(room, Call::CreateMutex(5, 1), "last place", DONE, 128, 0),
         row(typical, Call::CreateEvent(0, 1), "place 41", DONE, 41, 0),

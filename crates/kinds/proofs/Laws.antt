@@ -4,13 +4,13 @@ use mathlib.Core.Path.{_≡_, refl, ap, sym, _∙_}
 use mathlib.Core.Bool.{Bool, true, false, not, _&&_, _||_, cond, and-assoc, and-true, Bool·beq}
 use mathlib.Core.List.{List, [], _∷_}
 use native.Mathlib.Omega.{arith}
-use borrow.Author.Tests.{lt-ltb, le-ltb, le-leb, ne-eqb, leb-true, leb-false, eqb-true, eqb-false}
+use borrow.Author.Tests.{lt-ltb, le-ltb, ne-eqb, leb-true, leb-false}
 use lib.Dec.{eqb, ltb, leb, leb·suc-suc}
 use Rattle.model.specs.Basics.{bit, allOf}
 use Rattle.model.specs.Sizes.{mutexCeiling, word32}
 use Rattle.model.specs.Objects.{neverSignaled}
 use Rattle.model.specs.Calls.{Kind, aSemaphore, aMutex, anEvent, badNew}
-use Rattle.model.proofs.Logic.{byBool, not-twice, not-or}
+use Rattle.model.proofs.Logic.{byBool, not-twice, not-or, one-or-more}
 use Rattle.cells.specs.Objects.{Fields, fields, noFields, Changed, changed, acquiredFields, postFields, ifHeld, unlockFields}
 use Rattle.cells.specs.Validity.{validFields}
 use Rattle.cells.specs.Calls.{newFields}
@@ -42,14 +42,10 @@ highest = 4294967295
 pub has-32-bits : (n : ℕ) → leb n highest ≡ ltb n word32
 has-32-bits n = sym (leb·suc-suc n highest)
 
--- at least 1
-not-none : (n : ℕ) → leb 1 n ≡ not (eqb n 0)
-not-none n = byBool (eqb n 0) (λ y. rw (eqb-true n 0 y)) (λ f. let z : n ≡ 0 → ⊥ = eqb-false n 0 f in rw f (le-leb 1 n (omega arith)))
-
 -- the numbers of each kind
 pub semaphore-valid : (count max : ℕ) → joinedLeft (leb count max) (leb max highest ∷ leb 1 max ∷ []) ≡ validFields (fields 1 count 0 max)
 unfolding validFields allOf
-semaphore-valid count max = rw (has-32-bits max, not-none max) (all-left (leb count max) (ltb max word32 ∷ not (neverSignaled max) ∷ []))
+semaphore-valid count max = rw (has-32-bits max, one-or-more max) (all-left (leb count max) (ltb max word32 ∷ not (neverSignaled max) ∷ []))
 
 pub mutex-valid : (owner count abandoned : ℕ) → joinedLeft (leb owner highest) (leb count highest ∷ leb abandoned 1 ∷ Bool·beq (eqb owner 0) (eqb count 0) ∷ (eqb abandoned 0 || eqb owner 0) ∷ [])
     ≡ validFields (fields 2 count owner abandoned)

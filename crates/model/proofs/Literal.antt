@@ -18,7 +18,7 @@ use Rattle.model.specs.Objects.{Object, empty, semaphore, mutex, event, 
 use Rattle.model.specs.ValidCells.{Occupied, OfEvent, ValidObject, ValidWait, ValidCells}
 use Rattle.model.specs.Notions.{_isIn_}
 use Rattle.model.specs.Waits.{Mode, any, all, Wait, WaitPlace, free, waiting, State, objectAt, anyWaiting}
-use Rattle.model.proofs.Logic.{byBool, clash, differ, and-split, or-left, or-right, or-split, eqb-same, member-at, at-member, passed, pass}
+use Rattle.model.proofs.Logic.{byBool, clash, differ, and-split, or-left, or-right, or-split, one-or-more, eqb-same, member-at, at-member, passed, pass}
 use Rattle.model.proofs.Validity.{tables-valid, encoded-valid}
 use Rattle.model.proofs.Valid.{Valid, in-places, none-waiting, waiting-none, allOccupied-in, event-occupied}
 use Rattle.model.proofs.Cells.{valid-shaped, objectCell, waitCell, read-object, flag, viewObject, viewWait, read-wait, encode-length, read-next, at-in, in-at, byPlace, Holds, holds, free-cell, ticket-is, mode-is, owner-is, clock-is, timeout-is, count-is, alert-is, list-is, rest-is}
@@ -38,10 +38,10 @@ zero-same a b f g = byBool (eqb a 0) (λ y. rw (y, eq-eqb b 0 (f (eqb-true a 0 y
 
 -- a maximum of 1 or more
 pub has-maximum : (m : ℕ) → not (neverSignaled m) ≡ true → 1 ≤ m
-has-maximum m e = let n : m ≡ 0 → ⊥ = eqb-false m 0 (not-true _ e) in omega arith
+has-maximum m e = leb-true 1 m (one-or-more m ∙ e)
 
 pub maximum-has : (m : ℕ) → 1 ≤ m → not (neverSignaled m) ≡ true
-maximum-has m l = ap not (ne-eqb m 0 (λ z. let w : ⊥ = omega arith in w))
+maximum-has m l = sym (one-or-more m) ∙ le-leb 1 m l
 
 bit-low : (b : Bool) → bit b ≤ 1
 bit-low true = omega arith

@@ -6,8 +6,8 @@ use mathlib.Core.Option.{Option, none, some}
 use Prim.Native.Nat.{ℕ, zero, suc, _<_}
 use native.Mathlib.Omega.{arith}
 use lib.ListN.{length, getD}
-use lib.Dec.{eqb}
-use borrow.Author.Tests.{eq-eqb, eqb-true}
+use lib.Dec.{eqb, leb}
+use borrow.Author.Tests.{le-leb, eq-eqb, eqb-true, eqb-false}
 use Rattle.model.specs.Basics.{maybe, anyOf, allOf, member}
 
 pub byBool {ℓ} : {P : Type ℓ} (b : Bool) → (b ≡ true → P) → (b ≡ false → P) → P
@@ -81,6 +81,9 @@ or-split false b e = (refl, e)
 pub not-or : (a b : Bool) → (not a && not b) ≡ not (a || b)
 not-or true b = refl
 not-or false b = refl
+
+pub one-or-more : (n : ℕ) → leb 1 n ≡ not (eqb n 0)
+one-or-more n = byBool (eqb n 0) (λ y. rw (eqb-true n 0 y)) (λ f. let z : n ≡ 0 → ⊥ = eqb-false n 0 f in rw f (le-leb 1 n (omega arith)))
 
 pub eqb-same : (n : ℕ) → eqb n n ≡ true
 eqb-same n = eq-eqb n n refl
