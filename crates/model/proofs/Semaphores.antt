@@ -19,9 +19,9 @@ use Rattle.model.proofs.Validity.{tables-valid}
 use Rattle.model.proofs.Valid.{Valid}
 use Rattle.model.proofs.Literal.{has-maximum}
 
-step-refused : (s : State) (c m : ℕ) (l : Lent) → ((libraryStep s (asks (create aSemaphore c m) l)) .answer ≡ 1) ↔ ((m < c) ⊎ (m ≡ 0))
+step-semaphore : (s : State) (c m : ℕ) (l : Lent) → ((libraryStep s (asks (create aSemaphore c m) l)) .answer ≡ 1) ↔ ((m < c) ⊎ (m ≡ 0))
 unfolding libraryStep firstRefusal refusals least change
-step-refused s c m l =
+step-semaphore s c m l =
     let a : ltb (length (l .wake)) 0 ≡ false = le-ltb (length (l .wake)) 0 (omega arith) in
     let b : ltb (length (l .buffer)) 0 ≡ false = le-ltb (length (l .buffer)) 0 (omega arith) in
     byBool (ltb m c) (λ y. rw (a, b, y) (λ q. inl (ltb-true m c y), λ q. refl))
@@ -35,7 +35,7 @@ step-refused s c m l =
 pub tables-semaphore : (t : List ℕ) → validTables t ≡ true → (c m : ℕ) (l : Lent)
     → ((tableStep t (asks (create aSemaphore c m) l)) .answer ≡ 1) ↔ ((m < c) ⊎ (m ≡ 0))
 unfolding tableStep
-tables-semaphore t v c m l = rw v (step-refused (view t) c m l)
+tables-semaphore t v c m l = rw v (step-semaphore (view t) c m l)
 
 -- at count 0 there is room for one unit
 step-post : (s : State) → Valid s → (h m : ℕ) → objectAt (s .objects) h ≡ semaphore 0 m → (l : Lent) → LongEnough (asks (signal (post 1) h) l)
