@@ -17,7 +17,7 @@ use ntsync::Waited;
 use ntsync::Written;
 use signals::Changed;
 
-// It rises with every change of a signature or of an argument's meaning; the header has the same number.
+// It rises with every change that a host must know of; the header has the same number, and says which those are.
 pub const VERSION: u32 = 4;
 
 #[no_mangle]

@@ -1,6 +1,6 @@
 //! The functions of libntsync.a as include/ntsync.h declares them; hosts/abi/check compares the two.
 
-/// Rises with every change of a signature or of an argument's meaning.
+/// Rises with every change of a signature, an argument's meaning, a size, an answer or the layout of the tables.
 pub const VERSION: u32 = 4;
 /// Cells of the tables.
 pub const CELLS: usize = 2785;
