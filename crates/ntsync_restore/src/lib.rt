@@ -1,5 +1,5 @@
-// The public call that reads a snapshot back. The text is read into tables of the call's own, so that a refusal leaves the
-// lent ones as they were.
+// The public call that reads a snapshot back. The text is read into tables of the call's own, so that a refusal leaves
+// the lent ones as they were.
 ghost use mathlib.Core.Path.{_≡_};
 ghost use mathlib.Core.Bool.{not};
 ghost use mathlib.Core.List.{[], _∷_};
@@ -32,7 +32,8 @@ fn not_a_snapshot(offset: usize) -> Restored
 
 // The lines were in order, what they show is valid, and no wait in it could be served.
 fn acceptable(in_order: bool, read: &[u64]) -> bool
-    ensures { λ r. ⌜ r ≡ allOf (in_order ∷ validTables (now (read .entry)) ∷ not (someServable (now (read .entry))) ∷ []) ⌝ }
+    ensures { λ r. ⌜ r ≡ allOf (in_order ∷ validTables (now (read .entry))
+        ∷ not (someServable (now (read .entry))) ∷ []) ⌝ }
 {
     if !in_order {
         return false;
