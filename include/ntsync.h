@@ -25,17 +25,17 @@
  * What it needs and costs; hosts/costs/check compares each figure with the archive.
  *   Platform: x86-64, System V calling convention, ELF. Links without libc but for memcpy and memset. Uses SSE registers
  *   (xmm), none wider and no x87: an interrupt handler or kernel that calls it must save them.
- *   Memory: tables 22,280 bytes, wake list 768 bytes, snapshot buffer 32,768 bytes, all the host's. The archive has 19,073
+ *   Memory: tables 34,568 bytes, wake list 768 bytes, snapshot buffer 65,536 bytes, all the host's. The archive has 19,124
  *   bytes of code and constants, no data, no bss.
  *   Stack at worst, in bytes, with the return address and the arguments that the caller pushes, without what memcpy and
  *   memset take below their return address; there is no recursion:
- *     ntsync_version 8, ntsync_init 40, ntsync_create_sem 432, ntsync_create_mutex 432, ntsync_create_event 432,
- *     ntsync_close 416, ntsync_read_sem 416, ntsync_read_mutex 416, ntsync_read_event 416, ntsync_post 808,
- *     ntsync_unlock 808, ntsync_kill_owner 808, ntsync_set 792, ntsync_reset 416, ntsync_pulse 808, ntsync_wait_any 1,616,
- *     ntsync_wait_all 1,616, ntsync_expire 448, ntsync_cancel 432, ntsync_snapshot 480, ntsync_restore 23,856 (it reads the
- *     text into cells of its own, and alters the tables only when all of it is accepted).
- *   Time, in instructions at worst of the scenarios of docs/BENCH.md: the check of all cells 35,165; a call with its check
- *   161,217 (a post that wakes 32 waits for all of 64 objects), the snapshot of full tables 186,030, its restoring 526,031.
+ *     ntsync_version 8, ntsync_init 40, ntsync_create_sem 1,208, ntsync_create_mutex 1,208, ntsync_create_event 1,208,
+ *     ntsync_close 1,192, ntsync_read_sem 1,192, ntsync_read_mutex 1,192, ntsync_read_event 1,192, ntsync_post 1,256,
+ *     ntsync_unlock 1,256, ntsync_kill_owner 1,256, ntsync_set 1,240, ntsync_reset 1,192, ntsync_pulse 1,256,
+ *     ntsync_wait_any 2,904, ntsync_wait_all 2,904, ntsync_expire 1,224, ntsync_cancel 1,208, ntsync_snapshot 1,256,
+ *     ntsync_restore 36,920 (it reads the text into cells of its own, and alters the tables only when all of it is accepted).
+ *   Time, in instructions at worst of the scenarios of docs/BENCH.md: the check of all cells 47,081; a call with its check
+ *   172,621 (a post that wakes 32 waits for all of 64 objects), the snapshot of full tables 257,466, its restoring 842,793.
  *
  * Saving. What must outlive a power cut is saved as a snapshot, which ntsync_restore reads back; docs/howto/saving.md has the
  * program. The sum in its last line shows every cut and every single changed byte, but not two exchanged digits: against more
@@ -62,17 +62,17 @@
 
 /* Rises with every change of a signature, an argument's meaning, a size, an answer or the layout of the tables. A host
  * compares it with ntsync_version() at its start, and with the version that it stored with saved tables. */
-#define NTSYNC_VERSION 4
+#define NTSYNC_VERSION 5
 
 /* ---- sizes */
 
-#define NTSYNC_CELLS 2785           /* cells of the tables: 22,280 bytes */
-#define NTSYNC_OBJECT_PLACES 128    /* objects at most; handles are 1 to 128 */
+#define NTSYNC_CELLS 4321           /* cells of the tables: 34,568 bytes */
+#define NTSYNC_OBJECT_PLACES 512    /* objects at most; handles are 1 to 512 */
 #define NTSYNC_WAIT_PLACES 32       /* queued waits at most */
 #define NTSYNC_MAX_LISTED 64        /* handles in a wait's list at most; for any 0 at least, for all 1 */
 #define NTSYNC_RECORD_CELLS 3       /* cells of a wake record: ticket, answer, index */
 #define NTSYNC_WAKE_CELLS 96        /* cells of a wake list at least: a record for every wait place */
-#define NTSYNC_SNAPSHOT_BYTES 32768 /* bytes of a snapshot's buffer at least */
+#define NTSYNC_SNAPSHOT_BYTES 65536 /* bytes of a snapshot's buffer at least */
 
 /* ---- clocks and times */
 
@@ -297,7 +297,7 @@ uint32_t ntsync_cancel(uint64_t *tables, size_t cells, uint64_t ticket) NTSYNC_A
 
 /* ---- snapshot */
 
-/* Writes the tables as text (docs/LAYOUT.md, "A snapshot") to the front of buffer: length bytes, at most 28,437, no null byte
+/* Writes the tables as text (docs/LAYOUT.md, "A snapshot") to the front of buffer: length bytes, at most 54,549, no null byte
  * behind them, and the rest is not altered. The last line is the sum of all bytes before it. The tables are only read.
  * NTSYNC_LIST_SHORT if bytes is under NTSYNC_SNAPSHOT_BYTES. */
 ntsync_written ntsync_snapshot(const uint64_t *tables, size_t cells, uint8_t *buffer, size_t bytes) NTSYNC_WRITES_BUFFER;

@@ -4,10 +4,10 @@ use crate::measure::{fastest, Count, Measured};
 use crate::scenarios::{Scenario, Start};
 use crate::sides::Call;
 
-/// Aims of the check at each filling: against reading all cells once, in instructions; against plain Rust, in
-/// nanoseconds.
-const AIMS: [[Option<f64>; 2]; 4] =
-    [[Some(1.2), Some(0.6)], [Some(1.5), Some(0.65)], [Some(7.0), Some(0.2)], [None, None]];
+/// Aims of the check at each filling: against reading all cells once, in instructions, those of change request 6/13; against
+/// plain Rust, in nanoseconds.
+const AIMS: [[Option<f64>; 2]; 5] =
+    [[Some(1.4), Some(0.6)], [Some(1.8), Some(0.65)], [Some(4.0), None], [Some(7.0), Some(0.2)], [None, None]];
 
 /// Checks in a row that are timed together: the clock has steps of some nanoseconds.
 const CHECKS_TIMED: u32 = 16;

@@ -7,18 +7,20 @@ use crate::plain::cells::*;
 pub const HOLDER: u32 = 7;
 const FIRST_OWNER: u64 = 100;
 
-/// Objects, queued waits, handles in each list, and every which wait is for all (0: none).
+/// Objects and the cells of each, queued waits, handles in each list, and every which wait is for all (0: none).
 #[derive(Clone, Copy)]
 pub struct Filling {
     pub objects: usize,
+    pub object: fn(usize) -> [u64; OBJECT_CELLS],
     pub waits: usize,
     pub listed: usize,
     pub every: usize,
 }
 
-pub const NEW: Filling = Filling { objects: 0, waits: 0, listed: 0, every: 0 };
-pub const TYPICAL: Filling = Filling { objects: 40, waits: 6, listed: 4, every: 2 };
-pub const FULL: Filling = Filling { objects: OBJECT_PLACES, waits: WAIT_PLACES, listed: 64, every: 2 };
+pub const NEW: Filling = Filling { objects: 0, object: by_turns, waits: 0, listed: 0, every: 0 };
+pub const TYPICAL: Filling = Filling { objects: 40, waits: 6, listed: 4, every: 2, ..NEW };
+pub const BLOCK: Filling = Filling { objects: 400, object: of_block, ..TYPICAL };
+pub const FULL: Filling = Filling { objects: OBJECT_PLACES, waits: WAIT_PLACES, listed: 64, ..TYPICAL };
 pub const WORST: Filling = Filling { every: 1, ..FULL };
 
 pub fn put_object(tables: &mut [u64], handle: usize, cells: [u64; OBJECT_CELLS]) {
@@ -26,12 +28,22 @@ pub fn put_object(tables: &mut [u64], handle: usize, cells: [u64; OBJECT_CELLS])
     parts_mut(tables).objects[at..at + OBJECT_CELLS].copy_from_slice(&cells);
 }
 
-/// A semaphore, a mutex or a manual event, by turns, none of them signaled.
-fn object(place: usize) -> [u64; OBJECT_CELLS] {
-    match place % 3 {
-        0 => [SEMAPHORE, 0, 0, 5],
-        1 => [MUTEX, 1, HOLDER.into(), 0],
-        _ => [EVENT, 0, 0, 1],
+// None of them is signaled.
+const UNSIGNALED_SEM: [u64; OBJECT_CELLS] = [SEMAPHORE, 0, 0, 5];
+const HELD_MUTEX: [u64; OBJECT_CELLS] = [MUTEX, 1, HOLDER as u64, 0];
+const MANUAL_EVENT: [u64; OBJECT_CELLS] = [EVENT, 0, 0, 1];
+
+/// A semaphore, a mutex or an event, by turns.
+fn by_turns(place: usize) -> [u64; OBJECT_CELLS] {
+    [UNSIGNALED_SEM, HELD_MUTEX, MANUAL_EVENT][place % 3]
+}
+
+/// Nineteen semaphores and then a mutex, but at every fourth time an event: of 400 objects 15 mutexes and 5 events.
+fn of_block(place: usize) -> [u64; OBJECT_CELLS] {
+    match place % 80 {
+        79 => MANUAL_EVENT,
+        19 | 39 | 59 => HELD_MUTEX,
+        _ => UNSIGNALED_SEM,
     }
 }
 
@@ -51,7 +63,7 @@ impl Filling {
         let mut tables = vec![0; CELLS];
         tables[0] = self.waits as u64 + 1;
         for place in 0..self.objects {
-            put_object(&mut tables, place + 1, object(place));
+            put_object(&mut tables, place + 1, (self.object)(place));
         }
         for place in 0..self.waits {
             self.put_wait(&mut tables, place);

@@ -103,7 +103,7 @@ static ntsync_created create_key(uint32_t kind)
     return ntsync_create_event(tables, NTSYNC_CELLS, 0, 1);
 }
 
-/* 128 objects, all semaphores that are signaled but for the key: a semaphore, a mutex or an event that is not. */
+/* Every object place in use, all semaphores that are signaled but for the key: a semaphore, a mutex or an event that is not. */
 static void build_objects(uint32_t kind)
 {
     must(ntsync_init(tables, NTSYNC_CELLS), NTSYNC_DONE, "init");

@@ -4,7 +4,7 @@ ghost use mathlib.Core.Path.{_≡_};
 ghost use mathlib.Core.Bool.{true};
 use crate::print;
 
-pub const TABLE_LENGTH: usize = 2785;
+pub const TABLE_LENGTH: usize = 4321;
 
 // Lent by length, so that no caller has to prove that a call leaves it.
 pub type Cells = [u64; TABLE_LENGTH];
@@ -16,7 +16,7 @@ pub struct Tables {
 }
 
 // One cell more than the tables have, so that a slice that is too long can be lent too.
-pub const SPACE_LENGTH: usize = 2786;
+pub const SPACE_LENGTH: usize = TABLE_LENGTH + 1;
 
 // The cells of an object place.
 pub const KIND: usize = 0;
@@ -28,7 +28,7 @@ pub const OWNER: usize = 2;
 pub const ATTRIBUTE: usize = 3;
 
 // The cells of a wait place.
-pub const WAITS: usize = 513;
+pub const WAITS: usize = 2049;
 
 pub const WAIT_SIZE: usize = 71;
 

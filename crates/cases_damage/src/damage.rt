@@ -234,7 +234,7 @@ fn headers() {
 
 fn lists() {
     one_cell(b"list handle 0", ANY, LIST, 0);
-    one_cell(b"list handle 129", ANY, LIST, 129);
+    one_cell(b"list handle 513", ANY, LIST, 513);
     one_cell(b"list handle 7, empty place", ANY, LIST, 7);
     one_cell(b"list handle 2^32+1", ANY, LIST, 4294967297);
     one_cell(b"list handle 0, last of 64", LONG, LAST_LISTED, 0);
@@ -253,7 +253,7 @@ fn free_places() {
 fn names() {
     one_cell(b"alert a semaphore", ANY, ALERT, 1);
     one_cell(b"alert a mutex", ANY, ALERT, 2);
-    one_cell(b"alert 129", ANY, ALERT, 129);
+    one_cell(b"alert 513", ANY, ALERT, 513);
     one_cell(b"alert 2^32+4", ANY, ALERT, 4294967300);
     one_cell(b"alert 7, empty place", ANY, ALERT, 7);
     one_cell(b"wait for all, handle twice", ALL, SECOND_LISTED, 1);

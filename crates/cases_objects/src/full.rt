@@ -1,9 +1,9 @@
-// All 128 places in use, and numbers that are no handle.
+// All 512 places in use, and numbers that are no handle.
 use call_lines::memory::Cells;
 use call_lines::memory::Tables;
 use call_lines::print;
 
-const PLACES: u32 = 128;
+const PLACES: u32 = 512;
 
 // A semaphore, a mutex and an event in turn.
 fn create_some(t: &mut Cells, i: u32) -> u32 {
@@ -51,9 +51,9 @@ fn no_room(t: Tables) -> Tables {
 
 fn in_use(t: Tables) -> Tables {
     t.read_semaphore(1)
-        .read_event(126)
-        .read_semaphore(127)
-        .read_mutex(128)
+        .read_event(510)
+        .read_semaphore(511)
+        .read_mutex(512)
 }
 
 // The handle is none, or the number of no object.
@@ -65,24 +65,24 @@ fn no_handle(t: Tables, handle: u32) -> Tables {
         .close(handle)
 }
 
-// Handle 127 is a semaphore, 128 a mutex and 126 an event.
+// Handle 511 is a semaphore, 512 a mutex and 510 an event.
 fn wrong_kind(t: Tables) -> Tables {
-    t.read_mutex(127)
-        .read_event(127)
-        .reset(127)
-        .read_semaphore(128)
-        .read_event(128)
-        .reset(128)
-        .read_semaphore(126)
-        .read_mutex(126)
+    t.read_mutex(511)
+        .read_event(511)
+        .reset(511)
+        .read_semaphore(512)
+        .read_event(512)
+        .reset(512)
+        .read_semaphore(510)
+        .read_mutex(510)
 }
 
 pub fn cases() {
     print::heading(b"all places in use");
     let t = in_use(no_room(filled()));
-    let t = no_handle(t, 129);
+    let t = no_handle(t, 513);
     let t = no_handle(t, 0);
     let t = no_handle(t, 4294967295);
-    let t = wrong_kind(t).close(128);
-    no_handle(t, 128);
+    let t = wrong_kind(t).close(512);
+    no_handle(t, 512);
 }

@@ -12,7 +12,7 @@ use call_lines::print;
 use call_lines::waiting::NEVER;
 
 // The shortest buffer that is taken.
-const BUFFER_LENGTH: usize = 32768;
+const BUFFER_LENGTH: usize = 65536;
 
 // In every byte of a buffer before the call: '#', which stands in no snapshot.
 const SENTINEL: u8 = 35;
@@ -134,7 +134,7 @@ fn into_shorter(t: &Cells) {
 
 fn into_longer(t: &Cells) {
     measured(t, &mut [SENTINEL; BUFFER_LENGTH + 1]);
-    measured(t, &mut [SENTINEL; 40000]);
+    measured(t, &mut [SENTINEL; 80000]);
 }
 
 // Damage is answered before a short buffer.
@@ -164,10 +164,10 @@ fn newly_made() {
 
 // ---- the longest text
 
-// How many creations in a row gave the handles 1, 2, 3 and on, at most 127.
+// How many creations in a row gave the handles 1, 2, 3 and on, at most 511.
 fn create_mutexes(t: &mut Cells) -> u32 {
     let mut i: u32 = 0;
-    while i < 127 {
+    while i < 511 {
         let r = ntsync::create_mutex(t, CEILING, CEILING);
         if r.handle != i + 1 {
             return i;
@@ -187,17 +187,17 @@ fn full_mutexes() -> Tables {
     Tables { cells }
 }
 
-// Every number has as many digits as it can have; the event of handle 128 is every wait's alert and all of its list. The waits
+// Every number has as many digits as it can have; the event of handle 512 is every wait's alert and all of its list. The waits
 // spend the last 32 tickets.
 fn longest_text() -> Tables {
-    put_next(full_mutexes().create_event(0, 0), NEVER - 32).queue_many(&[128u32; 64], CEILING, 128)
+    put_next(full_mutexes().create_event(0, 0), NEVER - 32).queue_many(&[512u32; 64], CEILING, 512)
 }
 
-// 28,437 bytes, which as the length of a buffer are too few.
+// 54,549 bytes, which as the length of a buffer are too few.
 fn longest() {
     let t = longest_text();
     let cells = t.cells;
-    measured(&cells, &mut [SENTINEL; 28437]);
+    measured(&cells, &mut [SENTINEL; 54549]);
     measured(&cells, &mut [SENTINEL; BUFFER_LENGTH]);
 }
 

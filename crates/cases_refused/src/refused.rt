@@ -40,11 +40,11 @@ fn both_behind(t: Tables, handle: u32) -> Tables {
 
 fn handles(t: Tables) -> Tables {
     let t = both(t, 0);
-    let t = both(t, 129);
+    let t = both(t, 513);
     let t = both(t, MOST);
     let t = both(t, 5);
     let t = both_behind(t, 0);
-    let t = both_behind(t, 129);
+    let t = both_behind(t, 513);
     let t = both_behind(t, MOST);
     both_behind(t, 5)
 }
@@ -58,7 +58,7 @@ fn with(t: Tables, owner: u32, alert: u32, flags: u32, pad: u32) -> Tables {
 fn alerts(t: Tables) -> Tables {
     let t = with(t, 7, 4, 0, 0);
     let t = with(t, 7, 2, 0, 0);
-    let t = with(t, 7, 129, 0, 0);
+    let t = with(t, 7, 513, 0, 0);
     let t = with(t, 7, 5, 0, 0);
     let t = with(t, 7, MOST, 0, 0);
     with(t, 7, 1, 0, 0)
@@ -97,9 +97,9 @@ fn before_room() {
         .any_until(1, 7, 2, 5, 5)
         .any(1, 7)
         .put_next(NEVER)
-        .any(129, 7)
+        .any(513, 7)
         .put_next(0)
-        .any(129, 7)
+        .any(513, 7)
         .all(1, 7);
 }
 
@@ -131,7 +131,7 @@ fn ask(t: Tables, wake: &mut [u64], semaphore: u32, mutex: u32, event: u32, cloc
 // A short list is told before a bad handle.
 fn ask_twice(t: Tables, wake: &mut [u64]) -> Tables {
     let t = ask(t, wake, 4, 2, 1, 0);
-    ask(t, wake, 129, 0, 5, 2)
+    ask(t, wake, 513, 0, 5, 2)
 }
 
 fn ask_lists(t: Tables) -> Tables {
@@ -214,7 +214,7 @@ pub fn changes() {
     print::heading(b"what the calls that wake refuse");
     let t = wrong_kind(maximum(abandoned(no_owner(owners(objects())))));
     let t = no_object(t, 0);
-    let t = no_object(t, 129);
+    let t = no_object(t, 513);
     let t = no_object(t, MOST);
     no_object(t, 5);
 }

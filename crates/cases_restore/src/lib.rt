@@ -6,7 +6,7 @@ use call_lines::memory::TABLE_LENGTH;
 use call_lines::memory::Tables;
 use call_lines::print;
 
-const BUFFER_LENGTH: usize = 32768;
+const BUFFER_LENGTH: usize = 65536;
 
 // A text and how long it is.
 struct Text {

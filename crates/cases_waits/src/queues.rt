@@ -1,4 +1,4 @@
-// The limits of the queue: 32 waits, 64 handles in a list, handle 128, the last ticket.
+// The limits of the queue: 32 waits, 64 handles in a list, handle 512, the last ticket.
 use call_lines::memory::Cells;
 use call_lines::memory::Tables;
 use call_lines::print;
@@ -142,26 +142,26 @@ fn sixty_five(t: Tables) {
     posted(t, 65).any_of(&list, 7).all_of(&list, 7);
 }
 
-// ---- handle 128
+// ---- handle 512
 
 fn last_semaphore(t: Tables) -> Tables {
-    t.any(128, 7)
-        .all_two(128, 127, 8)
-        .post(128, 1)
-        .post(128, 1)
-        .post(127, 1)
-        .read_semaphore(128)
-        .any(129, 7)
-        .post(129, 1)
+    t.any(512, 7)
+        .all_two(512, 511, 8)
+        .post(512, 1)
+        .post(512, 1)
+        .post(511, 1)
+        .read_semaphore(512)
+        .any(513, 7)
+        .post(513, 1)
 }
 
 fn last_handle() {
-    last_semaphore(created(128))
-        .close(128)
+    last_semaphore(created(512))
+        .close(512)
         .create_event(0, 0)
-        .any_alert(127, 7, 128)
-        .set(128)
-        .read_event(128);
+        .any_alert(511, 7, 512)
+        .set(512)
+        .read_event(512);
 }
 
 // ---- the last ticket

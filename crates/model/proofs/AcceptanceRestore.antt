@@ -41,7 +41,7 @@ example-restored = refl
 -- a wrong key; one object more than counted; nothing; a wait that could be served
 pub examples-refused : map restored (
     (ascii p1-objects) ∷ (ascii p1-objects ++ (ascii p1-waits ++ ascii "sum=15010\n\n")) ∷ (ascii p1-objects ++ (ascii p1-waits ++ ascii "sum=15011\n"))
-    ∷ (ascii p1-objects ++ (ascii p1-waits ++ ascii "sum=15010")) ∷ ascii "next=02\n" ∷ ascii "next=2\nobjects=129\n" ∷ ascii "next=2\nobjects=0\nwait=0\n"
+    ∷ (ascii p1-objects ++ (ascii p1-waits ++ ascii "sum=15010")) ∷ ascii "next=02\n" ∷ ascii "next=2\nobjects=513\n" ∷ ascii "next=2\nobjects=0\nwait=0\n"
     ∷ ascii "next=18446744073709551616\n" ∷ ascii "next=1\nobjects=1\nhandle=1\nkind=sem\ncount=1\nmax=2\nhandle=1\n" ∷ [] ∷ ascii served ∷ [])
     ≡ refused 89 ∷ refused 0 ∷ refused 0 ∷ refused 185 ∷ refused 0 ∷ refused 7 ∷ refused 17 ∷ refused 0 ∷ refused 49 ∷ refused 0 ∷ refused 0 ∷ []
 unfolding _>>=_ give times after leading numberLine wordLine readValues readObject readWait readSnapshot returned judged restored allOf oldest lowestSignaled allSignaled look attempt allOccupied hasRepeat member joined distinctTickets sameCells

@@ -23,6 +23,7 @@ pub mod Sleeps
 pub mod Semaphores
 pub mod Tables
 pub mod DamageExamples
+pub mod TableReadings
 pub mod ReadLines
 pub mod ReadBack
 pub mod Placed

@@ -246,7 +246,7 @@ pub all-or-none-queued : (t : List ℕ) → validTables t ≡ true → (c : Call
     × ((view ((tableStep t c) .held)) .objects ≡ putAt last (d .clears) (cleared (objectAt last (d .clears))))
 all-or-none-queued t v c fit a = (tables-told t v c fit a) .1
 
--- 8. THE SNAPSHOT. No snapshot of a valid state is longer than 28,437 bytes, so every one fits the least buffer; one
+-- 8. THE SNAPSHOT. No snapshot of a valid state is longer than 54,549 bytes, so every one fits the least buffer; one
 -- has that length.
 pub longest-snapshot : (s : State) → validState s ≡ true
     → (length (snapshotText s) ≤ longestSnapshot) × (length (snapshotText s) ≤ snapshotBuffer)

@@ -23,7 +23,7 @@ number ticketsSpent = 8  -- "next ticket is 2^64-1"
 number corrupt = 9  -- "damaged tables"
 number busy = 10  -- "closing an object that a queued wait names"
 number queued = 11  -- "the wait has a ticket"
-number listShort = 12  -- "wake list under 32 records, or picture buffer under 32,768 bytes"
+number listShort = 12  -- "wake list under 32 records, or picture buffer under 32,768 bytes" (5/13: 65,536)
 number notASnapshot = 13  -- 3/13: "Anything else is new answer 13" (reading a text)
 
 -- what an optional value is worth: b where there is none

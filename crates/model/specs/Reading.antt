@@ -63,8 +63,8 @@ unfoldable pub wordLine : {A : Type 0} → List (String × A) → Reader A
 wordLine [] text = bad text
 wordLine (w ∷ ws) text = let r = wordLine ws text in maybe (after (ascii (w .0)) text) r (λ rest. good (w .1) rest)
 
--- "Ranges: handle and obj 1 to 128, alert and objects 0 to 128, waits 0 to 32, n 0 to 64, next and wait 1 to 2^64-1,
--- flags 0 or 1, else the whole width."
+-- "Ranges: handle and obj 1 to 128 [512 by 5/13], alert and objects 0 to 128 [512], waits 0 to 32, n 0 to 64, next and
+-- wait 1 to 2^64-1, flags 0 or 1, else the whole width."
 abbrev pub number32Line : String → Reader ℕ
 number32Line key = numberLine key 0 (word32 - 1)
 

@@ -1,9 +1,10 @@
 -- Every size and limit, each named once (document 01, "Sizes of the tables").
 use Prim.Native.Nat.{ℕ, _*_, _^_}
 
--- "128 object places, handles 1 to 128; 0 is never a handle."
+-- "128 object places, handles 1 to 128; 0 is never a handle.", and 5/13: "Raise object places and handles to 512 ..;
+-- waits and lists stay."
 abbrev pub objectPlaces : ℕ
-objectPlaces = 128
+objectPlaces = 512
 
 -- "32 wait places."
 abbrev pub waitPlaces : ℕ
@@ -32,13 +33,14 @@ never = 18446744073709551615
 abbrev pub ticketsEnd : ℕ
 ticketsEnd = 18446744073709551615
 
--- "12: wake list under 32 records, or picture buffer under 32,768 bytes": a record of three cells for every wait place
+-- "12: wake list under 32 records, or picture buffer under 32,768 bytes": a record of three cells for every wait place;
+-- 5/13: "The picture buffer becomes 65,536 bytes"
 abbrev pub wakeLength : ℕ
 wakeLength = 3 * waitPlaces
 
 abbrev pub snapshotBuffer : ℕ
-snapshotBuffer = 32768
+snapshotBuffer = 65536
 
--- "The longest picture is 28,437 bytes."
+-- 5/13: "the longest picture 54,549 bytes"
 abbrev pub longestSnapshot : ℕ
-longestSnapshot = 28437
+longestSnapshot = 54549

@@ -6,7 +6,7 @@ ghost use Rattle.model.specs.Steps.{tableStep, seen, sees};
 use ntsync_guard::CORRUPT;
 use ntsync_guard::LIST_SHORT;
 
-const SNAPSHOT_BUFFER: usize = 32768;
+const SNAPSHOT_BUFFER: usize = 65536;
 
 #[repr(C)]
 pub struct Written {

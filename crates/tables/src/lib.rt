@@ -12,7 +12,7 @@ ghost use Rattle.cells.specs.Validity.{unusedZero, validFree};
 ghost use Rattle.kinds.specs.Values.{cellsOf};
 use kinds::Object;
 
-pub const OBJECT_PLACES: usize = 128;
+pub const OBJECT_PLACES: usize = 512;
 
 pub const WAIT_PLACES: usize = 32;
 

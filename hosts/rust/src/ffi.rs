@@ -1,11 +1,11 @@
 //! The functions of libntsync.a as include/ntsync.h declares them; hosts/abi/check compares the two.
 
 /// Rises with every change of a signature, an argument's meaning, a size, an answer or the layout of the tables.
-pub const VERSION: u32 = 4;
+pub const VERSION: u32 = 5;
 /// Cells of the tables.
-pub const CELLS: usize = 2785;
-/// Objects at most; handles are 1 to 128.
-pub const OBJECT_PLACES: usize = 128;
+pub const CELLS: usize = 4321;
+/// Objects at most; handles are 1 to 512.
+pub const OBJECT_PLACES: usize = 512;
 /// Queued waits at most.
 pub const WAIT_PLACES: usize = 32;
 /// Handles in a wait's list at most.
@@ -15,7 +15,7 @@ pub const RECORD_CELLS: usize = 3;
 /// Cells of a wake list at least.
 pub const WAKE_CELLS: usize = 96;
 /// Bytes of a snapshot's buffer at least.
-pub const SNAPSHOT_BYTES: usize = 32768;
+pub const SNAPSHOT_BYTES: usize = 65536;
 /// The number of the monotonic clock.
 pub const MONOTONIC: u32 = 0;
 /// The number of the real-time clock, and the flag of a wait on it.

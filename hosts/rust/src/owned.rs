@@ -7,7 +7,7 @@ use alloc::string::String;
 use alloc::vec;
 
 impl Tables {
-    /// Empty tables in a box. They are made there: the stack never has to hold their 22 KiB.
+    /// Empty tables in a box. They are made there: the stack never has to hold their 34 KiB.
     ///
     /// # Panics
     ///

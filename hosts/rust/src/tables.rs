@@ -23,7 +23,7 @@ impl Default for Tables {
     }
 }
 
-/// The snapshot: on one line, or with `{:#?}` line by line. It takes 32 KiB of the stack.
+/// The snapshot: on one line, or with `{:#?}` line by line. It takes 64 KiB of the stack.
 impl fmt::Debug for Tables {
     fn fmt(&self, f: &mut fmt::Formatter<'_>) -> fmt::Result {
         let mut buffer = [0; ffi::SNAPSHOT_BYTES];
@@ -176,7 +176,7 @@ impl Tables {
     }
 
     /// The tables that a snapshot shows: the objects under their handles, the queued waits under their tickets. A snapshot
-    /// of them is the same text. It is all that a host needs of the old tables after a power cut. Reading takes some 22 KiB
+    /// of them is the same text. It is all that a host needs of the old tables after a power cut. Reading takes some 36 KiB
     /// of the stack beside the tables handed back.
     ///
     /// # Errors

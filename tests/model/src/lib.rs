@@ -13,11 +13,11 @@ pub use restore::restore;
 pub use state::{Clock, Mode, Object, State, Wait};
 pub use step::{Model, Slip, Waking};
 
-pub const OBJECTS: usize = 128;
+pub const OBJECTS: usize = 512;
 pub const WAITS: usize = 32;
 pub const LIST: usize = 64;
 pub const WAKE_CELLS: usize = 96;
-pub const PICTURE_BYTES: usize = 32_768;
+pub const PICTURE_BYTES: usize = 65_536;
 pub const NEVER: u64 = u64::MAX;
 pub const TICKETS_SPENT: u64 = u64::MAX;
 

@@ -37,6 +37,10 @@ pub enum Slip {
     MaximumOneRefused,
     /// A count of 0 is refused.
     CountZeroRefused,
+    /// Handles above 128 name nothing, as before 5/13.
+    HandlesTo128,
+    /// Of a handle above 256 the low eight bits are read.
+    HandleOf8Bits,
     /// Of a text that is read back: the sum begins with 1.
     SumFromOne,
     /// The offset is that of the line behind the bad one.
@@ -110,6 +114,8 @@ impl Model {
     fn place(&self, handle: u32) -> Option<usize> {
         match handle as usize {
             0 if self.has_slip(Slip::HandleZeroNames) => Some(0),
+            129.. if self.has_slip(Slip::HandlesTo128) => None,
+            handle @ 257.. if self.has_slip(Slip::HandleOf8Bits) => (handle % 256).checked_sub(1),
             handle @ 1..=OBJECTS => Some(handle - 1),
             _ => None,
         }

@@ -28,16 +28,23 @@ pub const ANSWERS: [(&str, &[u32]); 19] = [
     ("restore", &[0, 13]),
 ];
 
-const SITUATIONS: [&str; 95] = [
+const SITUATIONS: [&str; 102] = [
     "queue filled to 32",
     "no room with tickets spent",
     "served with the queue full",
     "timed out with the queue full",
-    "128th object created",
-    "handle 128 used",
-    "handle 129 refused",
+    "512th object created",
+    "handle 512 used",
+    "handle 513 refused",
     "handle 0 refused",
-    "handle 128 in a queued list",
+    "handle of 129 to 256 in a queued list",
+    "handle of 257 to 512 in a queued list",
+    "handle 512 in a queued list",
+    "alert of 129 to 256 queued",
+    "alert of 257 to 512 queued",
+    "woken by a handle above 256",
+    "woken by an alert above 256",
+    "restored with 400 objects",
     "mutex killed",
     "abandoned mutex acquired by any",
     "abandoned mutex acquired by all",
@@ -231,7 +238,7 @@ impl Coverage {
             self.observe_handle(before, call, handle, outcome);
         }
         let created = matches!(call, Call::Sem { .. } | Call::Mutex { .. } | Call::Event { .. });
-        self.met("128th object created", created && done && outcome.numbers[0] == 128);
+        self.met("512th object created", created && done && outcome.numbers[0] == 512);
         match *call {
             Call::Sem { count, max } => {
                 let (refused, full) = (outcome.answer == 1, after.objects.iter().all(Option::is_some));
@@ -270,8 +277,8 @@ impl Coverage {
 
     fn observe_handle(&mut self, before: &Before, call: &Call, handle: u32, outcome: &Outcome) {
         let (done, refused) = (outcome.answer == 0, outcome.answer == 1);
-        self.met("handle 128 used", done && handle == 128);
-        self.met("handle 129 refused", refused && handle == 129);
+        self.met("handle 512 used", done && handle == 512);
+        self.met("handle 513 refused", refused && handle == 513);
         self.met("handle 0 refused", refused && handle == 0);
         let place = (1..=OBJECTS as u32).contains(&handle);
         self.met("empty place refused", refused && place && before.object.is_none());
@@ -308,9 +315,16 @@ impl Coverage {
         let (refused, queued) = (outcome.answer == 1, outcome.answer == 11);
         let (any, all) = (mode == Mode::Any, mode == Mode::All);
         let n = list.len();
-        self.met("handle 129 refused", refused && list.contains(&129));
+        self.met("handle 513 refused", refused && list.contains(&513));
         self.met("handle 0 refused", refused && list.contains(&0));
-        self.met("handle 128 in a queued list", queued && list.contains(&128));
+        self.met("handle 512 in a queued list", queued && list.contains(&512));
+        for (handles, listed, as_alert) in [
+            (129..=256, "handle of 129 to 256 in a queued list", "alert of 129 to 256 queued"),
+            (257..=512, "handle of 257 to 512 in a queued list", "alert of 257 to 512 queued"),
+        ] {
+            self.met(listed, queued && list.iter().any(|handle| handles.contains(handle)));
+            self.met(as_alert, queued && handles.contains(&alert));
+        }
         self.met("list of 0 refused, all", all && refused && n == 0);
         self.met("list of 0 refused, any, for another argument", any && refused && n == 0);
         self.met("list of 0 queued with alert", queued && n == 0 && alert != 0);
@@ -400,10 +414,12 @@ impl Coverage {
         let beyond = |report: &Report| report.ticket >= 1 << 63;
         self.met("wakes tickets on both sides of 2^63", reports.iter().any(beyond) && !reports.iter().all(beyond));
         let listed = |report: &Report| place(report.ticket).map(|place| before.queued[place].1);
-        self.met(
-            "woken by alert",
-            !ended && reports.iter().any(|report| listed(report) == Some(report.index as usize)),
-        );
+        let by_alert = !ended && reports.iter().any(|report| listed(report) == Some(report.index as usize));
+        let woken = !ended && !reports.is_empty();
+        let handle = call.handle().unwrap_or(0);
+        self.met("woken by alert", by_alert);
+        self.met("woken by an alert above 256", by_alert && handle > 256);
+        self.met("woken by a handle above 256", woken && handle > 256);
         self.met("woken with 64 listed", !ended && reports.iter().any(|report| listed(report) == Some(LIST)));
         self.met("list of 0 woken by its alert", !ended && reports.iter().any(|report| listed(report) == Some(0)));
         let restored = reports.iter().any(|report| self.restored.contains(&report.ticket));
@@ -422,6 +438,7 @@ impl Coverage {
         self.met("restored from an older picture, its next ticket lower", after.next < before.next);
         self.met("restored with 32 waits", queued.len() == WAITS);
         self.met("restored with tickets spent", after.next == TICKETS_SPENT);
+        self.met("restored with 400 objects", after.objects.iter().flatten().count() >= 400);
         self.met("restored with an abandoned mutex", after.objects.iter().flatten().any(abandoned));
         self.restored = queued;
     }

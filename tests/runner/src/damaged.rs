@@ -18,7 +18,7 @@ use std::collections::BTreeMap;
 use std::thread;
 
 const SEED: u64 = 9;
-const LENGTHS: [usize; 9] = [0, 1, 2, 512, 513, 2714, CELLS - 1, CELLS + 1, CELLS + 16];
+const LENGTHS: [usize; 10] = [0, 1, 2, 2048, 2049, 2785, CELLS - 71, CELLS - 1, CELLS + 1, CELLS + 16];
 /// For each state.
 const PLACES_WRITTEN: usize = 10_000;
 const CELLS_WRITTEN: usize = 3_500;
@@ -151,13 +151,19 @@ impl Damage {
 
     // Ways to damage.
 
-    /// Every cell, several values, every kind of call.
+    /// Every cell, several values, every kind of call; but a few calls where an object place has nothing of its own.
     fn every_cell(&mut self) -> Result<(), String> {
         for cell in 0..CELLS {
             for value in values(self.sound_cells[cell]) {
                 let mut tables = self.sound_cells.clone();
                 tables[cell] = value;
-                self.try_every_kind(&tables, cell).map_err(|what| format!("cell {cell} is {value}: {what}"))?;
+                let tried = match layout::place_of(cell) {
+                    Some(Place::Object(place)) if place >= 100 && place + 28 < OBJECTS => {
+                        self.try_tables(&tables, cell)
+                    }
+                    _ => self.try_every_kind(&tables, cell),
+                };
+                tried.map_err(|what| format!("cell {cell} is {value}: {what}"))?;
             }
         }
         Ok(())
@@ -228,7 +234,7 @@ impl Damage {
         let occupied: Vec<u64> =
             (0..OBJECTS).filter(|&place| self.base.objects[place].is_some()).map(|place| place as u64 + 1).collect();
         let handle = |random: &mut Random| match random.below(60) {
-            0 => random.pick(&[0, 128, 129, 1 << 32]),
+            0 => random.pick(&[0, 512, 513, 1 << 32]),
             _ if occupied.is_empty() => 1,
             _ => random.pick(&occupied),
         };
@@ -383,7 +389,7 @@ fn in_other_mode(call: &Call) -> Option<Call> {
 /// The edges of every range and the neighbours of what is held, but not what is held.
 fn values(held: u64) -> Vec<u64> {
     let large = 1 << 32;
-    let mut values = vec![0, 1, 2, 3, 4, 64, 65, 128, 129, large - 1, large, u64::MAX];
+    let mut values = vec![0, 1, 2, 3, 4, 64, 65, 512, 513, large - 1, large, u64::MAX];
     values.extend([held.wrapping_add(1), held.wrapping_sub(1)]);
     values.sort();
     values.dedup();

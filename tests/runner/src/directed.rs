@@ -21,7 +21,7 @@ pub struct Case {
 pub type Done = Result<(), String>;
 type Test = (&'static str, fn(&mut Case) -> Done);
 
-const TESTS: [Test; 49] = [
+const TESTS: [Test; 50] = [
     ("P1, P2 and the picture", p1_p2),
     ("P3, P4", p3_p4),
     ("P5, P6", p5_p6),
@@ -30,8 +30,9 @@ const TESTS: [Test; 49] = [
     ("P9", p9),
     ("P10", p10),
     ("P11, P12", p11_p12),
-    ("handles 128, 129, 0", handles),
-    ("the 129th object", object_129),
+    ("handles 512, 513, 0", handles),
+    ("handles alike in their low bits", alike_handles),
+    ("the 513th object", object_513),
     ("lists of 0, 1, 63, 64, 65", lists),
     ("an empty list, ended each way", empty_lists),
     ("maximums of 0 and 1", maximums),
@@ -40,7 +41,7 @@ const TESTS: [Test; 49] = [
     ("the last ticket, 2^64-2", last_ticket),
     ("wake lists of 0 to 160 cells", lent::wake_lists),
     ("32 records", lent::records_32),
-    ("buffers of 0 to 32,832 bytes", lent::buffers),
+    ("buffers of 0 to 65,600 bytes", lent::buffers),
     ("the longest picture", lent::longest_picture),
     ("numbers of 64 bits at each border", digits::borders_of_64_bits),
     ("numbers of 32 bits at each border", digits::borders_of_32_bits),
@@ -218,22 +219,22 @@ fn p11_p12(case: &mut Case) -> Done {
 
 fn handles(case: &mut Case) -> Done {
     case.create(&vec![event(1, 1); OBJECTS])?;
-    case.reads(Call::ReadEvent { handle: 128 }, 1, 1)?;
-    case.answers(any(1, 128, NEVER, &[128]), 0)?;
-    case.answers(all(1, 0, NEVER, &[128, 1]), 0)?;
-    case.hears(Call::Reset { handle: 128 }, 0, [1, 0], &[])?;
-    for bad in [0, 129, 130, 256, 65_664, MAX] {
+    case.reads(Call::ReadEvent { handle: 512 }, 1, 1)?;
+    case.answers(any(1, 512, NEVER, &[512]), 0)?;
+    case.answers(all(1, 0, NEVER, &[512, 1]), 0)?;
+    case.hears(Call::Reset { handle: 512 }, 0, [1, 0], &[])?;
+    for bad in [0, 513, 514, 1024, 66_048, MAX] {
         refuse_handle(case, bad)?;
     }
-    case.queues(any(1, 0, NEVER, &[128]), 1)?;
-    case.answers(Call::Close { handle: 128 }, 10)?;
-    case.wakes(set(128), 0, &[(1, 0, 0)])?;
-    case.answers(Call::Close { handle: 128 }, 0)?;
-    case.answers(any(1, 0, 0, &[128]), 1)?;
-    for (handle, object) in [(128, sem(1, 1)), (128, mutex(1, 1))] {
+    case.queues(any(1, 0, NEVER, &[512]), 1)?;
+    case.answers(Call::Close { handle: 512 }, 10)?;
+    case.wakes(set(512), 0, &[(1, 0, 0)])?;
+    case.answers(Call::Close { handle: 512 }, 0)?;
+    case.answers(any(1, 0, 0, &[512]), 1)?;
+    for (handle, object) in [(512, sem(1, 1)), (512, mutex(1, 1))] {
         case.hears(object, 0, [handle, 0], &[])?;
-        case.answers(any(1, 0, 0, &[128]), 0)?;
-        case.answers(Call::Close { handle: 128 }, 0)?;
+        case.answers(any(1, 0, 0, &[512]), 0)?;
+        case.answers(Call::Close { handle: 512 }, 0)?;
     }
     Ok(())
 }
@@ -263,7 +264,35 @@ fn refuse_handle(case: &mut Case, bad: u32) -> Done {
     Ok(())
 }
 
-fn object_129(case: &mut Case) -> Done {
+/// Handles that a narrower number, or a mask of too few bits, takes for one another: in lists, as alerts, and together in a
+/// wait for all.
+fn alike_handles(case: &mut Case) -> Done {
+    let handles = [1, 128, 129, 256, 257, 384, 385, 511, 512];
+    case.create(&vec![event(0, 0); OBJECTS])?;
+    let queued: Vec<(u64, u32)> = (1..).zip(handles).collect();
+    for &(ticket, handle) in &queued {
+        case.queues(any(1, 0, NEVER, &[handle]), ticket)?;
+    }
+    for &(ticket, handle) in &queued {
+        case.queues(any(1, handle, NEVER, &[]), ticket + 9)?;
+    }
+    for later in [0, 9] {
+        for &(ticket, handle) in queued.iter().rev() {
+            case.wakes(set(handle), 0, &[(ticket + later, 0, 0)])?;
+        }
+    }
+    case.queues(all(1, 511, NEVER, &[1, 129, 257, 385, 256]), 19)?;
+    case.queues(all(1, 0, NEVER, &[512, 384, 128]), 20)?;
+    for handle in [1, 129, 257, 385, 512, 384] {
+        case.answers(set(handle), 0)?;
+    }
+    case.answers(Call::Close { handle: 256 }, 10)?;
+    case.wakes(set(256), 0, &[(19, 0, 0)])?;
+    case.wakes(set(128), 0, &[(20, 0, 0)])?;
+    case.answers(Call::Close { handle: 256 }, 0)
+}
+
+fn object_513(case: &mut Case) -> Done {
     case.create(&vec![sem(0, MAX); OBJECTS])?;
     for call in [sem(0, 1), mutex(0, 0), mutex(1, 1), event(0, 0)] {
         case.answers(call, 7)?;
@@ -410,9 +439,9 @@ fn argument_first(case: &mut Case) -> Done {
     case.answers(mutex(0, 1), 1)?;
     case.answers(sem(1, 1), 7)?;
     case.fill_queue(&any(6, 0, NEVER, &[1]))?;
-    case.answers(any(6, 0, NEVER, &[129]), 1)?;
+    case.answers(any(6, 0, NEVER, &[513]), 1)?;
     case.answers(all(6, 0, NEVER, &[1, 1]), 1)?;
-    case.answers(Call::Close { handle: 129 }, 1)?;
+    case.answers(Call::Close { handle: 513 }, 1)?;
     case.answers(Call::Close { handle: 1 }, 10)?;
     case.answers(Call::Close { handle: 2 }, 0)?;
     case.answers(unlock(2, 0), 1)?;

@@ -65,7 +65,7 @@ impl Mood {
     pub fn new(random: &mut Random) -> Mood {
         let weights = random.pick(&[GENERAL, FILLING, FILLING, MUTEXES, OBJECTS_ALL, PULSES, TIMES]);
         let many = weights == OBJECTS_ALL || random.percent(15);
-        let prelude = if many { 60 + random.below(70) } else { random.below(9) };
+        let prelude = if many { crowd(random) } else { random.below(9) };
         let pool = [1, 2, 3, 7, u32::MAX, u32::MAX - 1];
         let owners = (0..1 + random.below(4)).map(|_| random.pick(&pool)).collect();
         Mood {
@@ -263,7 +263,7 @@ fn handles(state: &State, which: impl Fn(&Object) -> bool) -> Vec<u32> {
 
 /// At the edges, or 1 to a reading of too few bits.
 fn odd_handle(random: &mut Random) -> u32 {
-    random.pick(&[0, 0, 127, 128, 129, 130, 255, 257, 65_537, (1 << 31) + 1, u32::MAX])
+    random.pick(&[0, 0, 128, 129, 255, 257, 511, 512, 513, 514, 1025, 65_537, (1 << 31) + 1, u32::MAX])
 }
 
 /// Mostly an object of the kind; else any object, any place, or an odd handle.
@@ -275,7 +275,7 @@ fn handle(random: &mut Random, state: &State, kind: Option<Kind>) -> u32 {
         _ => Vec::new(),
     };
     match share {
-        _ if !wanted.is_empty() => random.pick(&wanted),
+        _ if !wanted.is_empty() => one_of(random, &wanted),
         0..97 => odd_handle(random),
         _ => 1 + random.below(OBJECTS) as u32,
     }
@@ -319,9 +319,27 @@ fn alert(random: &mut Random, state: &State, list: &[u32]) -> u32 {
             if events.is_empty() {
                 0
             } else {
-                random.pick(&events)
+                one_of(random, &events)
             }
         }
+    }
+}
+
+/// So many objects that handles pass 128; now and then so many that there is no room for more.
+fn crowd(random: &mut Random) -> usize {
+    if random.percent(6) {
+        OBJECTS + 40 + random.below(60)
+    } else {
+        60 + random.below(120)
+    }
+}
+
+/// Mostly any of them, now and then the last.
+fn one_of(random: &mut Random, handles: &[u32]) -> u32 {
+    if random.percent(10) {
+        handles[handles.len() - 1]
+    } else {
+        random.pick(handles)
     }
 }
 
@@ -357,7 +375,7 @@ fn wake_cells(random: &mut Random) -> usize {
 
 fn picture_bytes(random: &mut Random) -> usize {
     match random.below(10) {
-        0 => random.pick(&[0, 1, 32_767]),
+        0 => random.pick(&[0, 1, 32_768, 65_535]),
         1 => random.below(PICTURE_BYTES),
         2 => PICTURE_BYTES + 1 + random.below(MOST_BYTES - PICTURE_BYTES),
         _ => PICTURE_BYTES,

@@ -3,10 +3,10 @@
 
 use second_model::{Clock, Mode, Object, State, Wait};
 
-const CELLS: usize = 2785;
-const OBJECT_PLACES: usize = 128;
+const CELLS: usize = 4321;
+const OBJECT_PLACES: usize = 512;
 const OBJECT_CELLS: usize = 4;
-const FIRST_WAIT: usize = 513;
+const FIRST_WAIT: usize = 2049;
 const WAIT_PLACES: usize = 32;
 const WAIT_CELLS: usize = 71;
 pub const LIST_AT: usize = 7;

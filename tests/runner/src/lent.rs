@@ -58,13 +58,13 @@ pub fn longest_picture(case: &mut Case) -> Done {
     let mut objects = vec![mutex(MAX, MAX); OBJECTS - 1];
     objects.push(event(0, 1));
     case.create(&objects)?;
-    let list = vec![127; LIST];
+    let list = vec![511; LIST];
     case.bench.write_next(u64::MAX - 32);
     for ticket in u64::MAX - 32..u64::MAX {
-        case.queues(any(MAX, 128, NEVER, &list), ticket)?;
+        case.queues(any(MAX, 512, NEVER, &list), ticket)?;
     }
     let outcome = case.step(&Call::Picture { bytes: PICTURE_BYTES })?;
-    if outcome.numbers != [28_437, 0] {
+    if outcome.numbers != [54_549, 0] {
         return Err(format!("{} bytes", outcome.numbers[0]));
     }
     Ok(())
@@ -148,7 +148,7 @@ pub fn header(_: &mut Case) -> Done {
 
 /// Making needs only the length, whatever the tables hold.
 pub fn making(case: &mut Case) -> Done {
-    for cells in [0, 1, 2, 512, CELLS - 1, CELLS + 1] {
+    for cells in [0, 1, 2, 2785, CELLS - 1, CELLS + 1] {
         let mut library = Library::unmade();
         let before = library.tables().to_vec();
         case.calls += 1;

@@ -92,11 +92,11 @@ extern "C" {
     fn munmap(at: *mut c_void, length: usize) -> i32;
 }
 
-pub const CELLS: usize = 2785;
+pub const CELLS: usize = 4321;
 pub const GUARD: usize = 16;
 /// The longest wake list, picture buffer and list of handles that calls here lend, `play_far` excepted.
 pub const MOST_WAKE: usize = 160;
-pub const MOST_BYTES: usize = 32_768 + 64;
+pub const MOST_BYTES: usize = 65_536 + 64;
 const MOST_LISTED: usize = 512;
 /// What stands around a text: a line cut short would be whole with the first byte behind it.
 const TEXT_GUARD: [u8; GUARD] = *b"\n01234\nsum=567\n8";
@@ -404,7 +404,7 @@ struct Mapping {
 }
 
 impl Mapping {
-    const WRITABLE: usize = 65_536;
+    const WRITABLE: usize = 131_072;
 
     /// Room for so many cells, if the address space has it.
     fn new(cells: usize) -> Option<Mapping> {

@@ -94,7 +94,7 @@ fn object_rows() -> Vec<Row> {
         rows(count, of(1, ATTRIBUTE), &[1]),
         rows(maximum, of(6, ATTRIBUTE), &[0]),
         rows(maximum, of(9, KIND), &[1]),
-        rows(maximum, of(128, KIND), &[1]),
+        rows(maximum, of(512, KIND), &[1]),
         rows(owner, of(2, HOLDER), &[0]),
         rows(owner, of(2, COUNT), &[0]),
         rows(owner, of(4, COUNT), &[1, LARGE - 1]),
@@ -110,7 +110,7 @@ fn object_rows() -> Vec<Row> {
         rows(None, of(3, COUNT), &[1]),
         rows(None, of(3, ATTRIBUTE), &[1]),
         rows(None, of(9, KIND), &[2, 3]),
-        rows(None, of(128, KIND), &[2, 3]),
+        rows(None, of(512, KIND), &[2, 3]),
     ]
     .concat()
 }
@@ -119,7 +119,7 @@ fn empty_rows() -> Vec<Row> {
     let zeros = Some("an empty place not zeros");
     let mut all = Vec::new();
     for value in [1, LARGE, u64::MAX] {
-        let objects = [7, 128].into_iter().flat_map(|handle| [COUNT, HOLDER, ATTRIBUTE].map(|cell| (handle, cell)));
+        let objects = [7, 512].into_iter().flat_map(|handle| [COUNT, HOLDER, ATTRIBUTE].map(|cell| (handle, cell)));
         all.extend(objects.map(|(handle, cell)| (zeros, in_object(handle, cell, value))));
         let waits = [3, 31].into_iter().flat_map(|place| (MODE..LIST_AT + LIST).map(move |cell| (place, cell)));
         all.extend(waits.map(|(place, cell)| (zeros, in_wait(place, cell, value))));
@@ -180,11 +180,11 @@ fn list_rows() -> Vec<Row> {
 
 /// Handles that a reading of too few bits would take for 6 or 3 are among the wrong ones.
 fn name_rows() -> Vec<Row> {
-    let wrong = [0, 7, 128, 129, 128 + 6, 256 + 6, 65_536 + 6, LARGE + 6, u64::MAX];
+    let wrong = [0, 7, 128, 129, 256 + 6, 512, 513, 512 + 6, 1024 + 6, 65_536 + 6, LARGE + 6, u64::MAX];
     let listed = |place: usize, at: usize| move |value: u64| in_wait(place, LIST_AT + at, value);
     let alert = |place: usize| move |value: u64| in_wait(place, ALERT, value);
     let emptied = |value: u64| [KIND, ATTRIBUTE].map(|cell| (object_at(5) + cell, value)).to_vec();
-    let no_event = [1, 2, 4, 7, 128, 129, 128 + 3, 256 + 3, 65_536 + 3, LARGE + 3, u64::MAX];
+    let no_event = [1, 2, 4, 7, 128, 129, 256 + 3, 512, 513, 512 + 3, 1024 + 3, 65_536 + 3, LARGE + 3, u64::MAX];
     let twice = Some("a handle twice in a wait for all");
     let occupied = Some("a listed handle without object");
     [

@@ -2,6 +2,7 @@
 
 use crate::random::Random;
 use crate::texts::{self, mended};
+use second_model::OBJECTS;
 
 type Lines = Vec<Vec<u8>>;
 
@@ -79,14 +80,15 @@ pub fn put(line: &mut Vec<u8>, value: &[u8]) {
 /// Near what it was, at the edge of some range, or another line's.
 fn change_number(random: &mut Random, lines: &mut Lines, at: usize) {
     let Some(held) = number_of(&lines[at]) else { return };
-    let edges = [0, 1, 2, 32, 33, 64, 65, 127, 128, 129, (1 << 32) - 1, 1 << 32, 1 << 63, u64::MAX - 1, u64::MAX];
+    let edges =
+        [0, 1, 2, 32, 33, 64, 65, 128, 129, 511, 512, 513, (1 << 32) - 1, 1 << 32, 1 << 63, u64::MAX - 1, u64::MAX];
     let other = number_of(&lines[random.below(lines.len())]).unwrap_or(0);
     let value = match random.below(8) {
         0..2 => held.wrapping_add(1),
         2 => held.wrapping_sub(1),
         3 => other,
         4 => random.number(),
-        5 => random.below(130) as u64,
+        5 => random.below(OBJECTS + 2) as u64,
         _ => random.pick(&edges),
     };
     put(&mut lines[at], value.to_string().as_bytes());

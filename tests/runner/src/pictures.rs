@@ -21,7 +21,9 @@ const CHANGED: usize = 4_000;
 /// Texts up to so many bytes are tried in every way, longer ones in fewer.
 const SHORT: usize = 400;
 const MIDDLE: usize = 10_000;
-const LENGTHS: [usize; 7] = [0, 1, 2, 513, CELLS - 1, CELLS + 1, CELLS + 16];
+const LONG: usize = 30_000;
+const ENDS: usize = 3_000;
+const LENGTHS: [usize; 7] = [0, 1, 2, 2785, CELLS - 1, CELLS + 1, CELLS + 16];
 const MEGABYTES: usize = 4 << 20;
 
 /// Ways to damage a picture; whether a text so damaged is accepted, refused at a line behind the first, and refused at offset
@@ -191,7 +193,7 @@ impl Trial {
     // Ways to damage a picture.
 
     fn bytes(&mut self, text: &[u8]) -> Done {
-        for at in 0..text.len() {
+        for at in places(text) {
             for byte in other_bytes(text, at) {
                 let mut changed = text.to_vec();
                 changed[at] = byte;
@@ -203,7 +205,7 @@ impl Trial {
 
     fn digits(&mut self, text: &[u8]) -> Done {
         let most = if text.len() < MIDDLE { 9 } else { 1 };
-        for at in (0..text.len()).filter(|&at| text[at].is_ascii_digit()) {
+        for at in places(text).filter(|&at| text[at].is_ascii_digit()) {
             for more in 1..=most {
                 let mut changed = text.to_vec();
                 changed[at] = b'0' + (text[at] - b'0' + more) % 10;
@@ -214,12 +216,12 @@ impl Trial {
     }
 
     fn prefixes(&mut self, text: &[u8]) -> Done {
-        (0..text.len()).try_for_each(|end| self.text("cut short", text[..end].to_vec()))
+        places(text).try_for_each(|end| self.text("cut short", text[..end].to_vec()))
     }
 
     fn tails(&mut self, text: &[u8]) -> Done {
         let sum = lines(text).pop().unwrap_or_default();
-        let tails: [&[u8]; 9] = [b"\n", b"0", b" ", b"\r\n", b"\0", b"sum=0\n", sum, text, &[0; 40_000]];
+        let tails: [&[u8]; 9] = [b"\n", b"0", b" ", b"\r\n", b"\0", b"sum=0\n", sum, text, &[0; 80_000]];
         tails.iter().try_for_each(|tail| self.text("something behind", [text, tail].concat()))
     }
 
@@ -272,7 +274,7 @@ impl Trial {
     }
 
     fn edges(&mut self, text: &[u8]) -> Done {
-        let small = [0, 1, 2, 31, 32, 33, 63, 64, 65, 127, 128, 129, 255, 256, 257];
+        let small = [0, 1, 2, 31, 32, 33, 63, 64, 65, 127, 128, 129, 255, 256, 257, 511, 512, 513];
         let large = [32, 63, 64, 65, 127].map(|bits| 1u128 << bits);
         let edges = large.into_iter().flat_map(|edge| [edge - 1, edge, edge + 1]).chain(small);
         let edges: Vec<Vec<u8>> = edges.map(|edge| edge.to_string().into_bytes()).collect();
@@ -348,6 +350,12 @@ fn chosen(text: &[u8], of_long: usize) -> impl Iterator<Item = usize> {
     let lines = lines(text).len();
     let step = if text.len() < MIDDLE { 1 } else { of_long };
     (0..lines).filter(move |at| at % step == 0 || *at < 20 || *at + 1 == lines)
+}
+
+/// Places of the text to change or to cut it at: all of them, but within a long one every fifth.
+fn places(text: &[u8]) -> impl Iterator<Item = usize> {
+    let length = text.len();
+    (0..length).filter(move |at| length < LONG || at % 5 == 0 || *at < ENDS || at + ENDS > length)
 }
 
 /// Other bytes to put there: all of them in a short text, two in a long one.

@@ -5,7 +5,7 @@ use crate::directed::{Case, Done, PICTURE};
 use crate::library::{Library, CELLS};
 use crate::script::heard_text;
 use crate::texts::summed;
-use second_model::{Call, Outcome, NEVER};
+use second_model::{Call, Outcome, NEVER, PICTURE_BYTES};
 
 pub const EMPTY: &str = "next=1\nobjects=0\nwaits=0\nsum=2103\n";
 
@@ -120,7 +120,7 @@ pub fn places(case: &mut Case) -> Done {
         case.answers(Call::Cancel { ticket }, 6)?;
     }
     case.queues(all(2, 1, NEVER, &[2]), 33)?;
-    let before = case.step(&Call::Picture { bytes: 32_768 })?.text;
+    let before = case.step(&Call::Picture { bytes: PICTURE_BYTES })?.text;
     hears(case, &before, Accepted)?;
     let tickets = case.bench.model.state.waits.iter().map(|wait| wait.as_ref().map(|wait| wait.ticket));
     let due = (3..=33).filter(|ticket| *ticket != 30).map(Some).chain([None, None]);
@@ -221,7 +221,7 @@ pub fn order_of_lines(case: &mut Case) -> Done {
             (0, "next=9\nobjects=3\n", "objects=3\nnext=9\n", At(0)),
             (7, "objects=3\n", "", At(7)),
             (7, "objects=3\n", "objects=4\n", At(137)),
-            (7, "objects=3\n", "objects=128\n", At(139)),
+            (7, "objects=3\n", "objects=512\n", At(139)),
             (7, "objects=3\n", "objects=2\n", At(97)),
             (7, "objects=3\n", "objects=0\n", At(17)),
             (26, "kind=sem\n", "kind=event\n", At(37)),
@@ -256,11 +256,11 @@ pub fn ranges_of_objects(case: &mut Case) -> Done {
         &[
             (0, "next=9\n", "next=18446744073709551615\n", Accepted),
             (0, "next=9\n", "next=18446744073709551616\n", At(0)),
-            (7, "objects=3\n", "objects=129\n", At(7)),
+            (7, "objects=3\n", "objects=513\n", At(7)),
             (17, "handle=2\n", "handle=0\n", At(17)),
             (17, "handle=2\n", "handle=1\n", WHOLE),
-            (97, "handle=9\n", "handle=128\n", WHOLE),
-            (97, "handle=9\n", "handle=129\n", At(97)),
+            (97, "handle=9\n", "handle=512\n", WHOLE),
+            (97, "handle=9\n", "handle=513\n", At(97)),
             (35, "count=0\nmax=5\n", "count=0\nmax=4294967295\n", Accepted),
             (35, "count=0\nmax=5\n", "count=0\nmax=4294967296\n", At(43)),
             (35, "count=0\nmax=5\n", "count=0\nmax=0\n", WHOLE),
@@ -298,26 +298,26 @@ pub fn ranges_of_waits(case: &mut Case) -> Done {
             (180, "timeout=50\n", "timeout=18446744073709551615\n", Accepted),
             (180, "timeout=50\n", "timeout=18446744073709551616\n", At(180)),
             (191, "alert=9\n", "alert=0\n", Accepted),
-            (191, "alert=9\n", "alert=128\n", WHOLE),
-            (191, "alert=9\n", "alert=129\n", At(191)),
+            (191, "alert=9\n", "alert=512\n", WHOLE),
+            (191, "alert=9\n", "alert=513\n", At(191)),
             (199, "n=2\nobj=2\nobj=2\n", "n=0\n", Accepted),
             (287, "n=1\n", "n=65\n", At(287)),
             (203, "obj=2\n", "obj=0\n", At(203)),
             (203, "obj=2\n", "obj=1\n", WHOLE),
-            (203, "obj=2\n", "obj=128\n", WHOLE),
-            (203, "obj=2\n", "obj=129\n", At(203)),
+            (203, "obj=2\n", "obj=512\n", WHOLE),
+            (203, "obj=2\n", "obj=513\n", At(203)),
         ],
     )
 }
 
-/// Ends that need more than one other line: 128 objects, handle 128, 64 listed, the last ticket.
+/// Ends that need more than one other line: 512 objects, handle 512, 64 listed, the last ticket.
 pub fn far_ends(case: &mut Case) -> Done {
-    let objects: String = (1..=128).map(|h| format!("handle={h}\nkind=event\nsignaled=0\nmanual=0\n")).collect();
-    let listed = "obj=128\n".repeat(64);
-    let wait = format!("mode=any\nowner=1\nclock=mono\ntimeout=0\nalert=128\nn=64\n{listed}");
+    let objects: String = (1..=512).map(|h| format!("handle={h}\nkind=event\nsignaled=0\nmanual=0\n")).collect();
+    let listed = "obj=512\n".repeat(64);
+    let wait = format!("mode=any\nowner=1\nclock=mono\ntimeout=0\nalert=512\nn=64\n{listed}");
     let last = u64::MAX - 32;
     let waits: String = (last..u64::MAX).map(|ticket| format!("wait={ticket}\n{wait}")).collect();
-    let text = |next: u64| summed(&format!("next={next}\nobjects=128\n{objects}waits=32\n{waits}"));
+    let text = |next: u64| summed(&format!("next={next}\nobjects=512\n{objects}waits=32\n{waits}"));
     hears(case, text(u64::MAX).as_bytes(), Accepted)?;
     case.answers(any(1, 0, NEVER, &[1]), 7)?;
     hears(case, text(u64::MAX - 1).as_bytes(), WHOLE)
@@ -437,7 +437,7 @@ pub fn servable(case: &mut Case) -> Done {
 
 /// "Of the lent tables only the lengths matter, else 9", which comes first.
 pub fn lengths_first(case: &mut Case) -> Done {
-    for cells in [0, 1, 2, 512, CELLS - 1, CELLS + 1] {
+    for cells in [0, 1, 2, 2785, CELLS - 1, CELLS + 1] {
         for text in [EMPTY, PICTURE, "", "next=0\n"] {
             refuses_length(case, cells, text)?;
         }

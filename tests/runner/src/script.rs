@@ -1,6 +1,6 @@
 //! Calls, answers and failing histories in the notation of vectors/histories.txt.
 //! Added here: `expire CLOCK TIME`, `picture`, `restore TEXT` (as `texts::escaped` writes it), and behind `#` the time given
-//! to a wait if it is not 0 and lengths other than 96 and 32,768; in a title `next=N`, a next ticket other than 1 that the
+//! to a wait if it is not 0 and lengths other than 96 and 65,536; in a title `next=N`, a next ticket other than 1 that the
 //! history begins with.
 
 use crate::history::History;

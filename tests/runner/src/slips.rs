@@ -13,7 +13,7 @@ const SEED: u64 = 5;
 /// In which each slip must be found.
 const CALLS: u64 = 200_000;
 
-const SLIPS: [(Slip, &str); 20] = [
+const SLIPS: [(Slip, &str); 22] = [
     (Slip::UnlockWakesAtZero, "unlock wakes only at zero"),
     (Slip::KeepPartOfAll, "part of a wait for all kept"),
     (Slip::OwnerDeadRefuses, "EOWNERDEAD refuses"),
@@ -24,6 +24,8 @@ const SLIPS: [(Slip, &str); 20] = [
     (Slip::ZeroMaximumCreated, "maximum 0 created"),
     (Slip::MaximumOneRefused, "maximum 1 refused"),
     (Slip::CountZeroRefused, "count 0 refused"),
+    (Slip::HandlesTo128, "handles end at 128"),
+    (Slip::HandleOf8Bits, "handle cut to 8 bits"),
     (Slip::SumFromOne, "sum from 1"),
     (Slip::OffsetLate, "offset one line late"),
     (Slip::LeadingZero, "leading zero accepted"),
@@ -36,7 +38,7 @@ const SLIPS: [(Slip, &str); 20] = [
     (Slip::ZeroMaximumAccepted, "maximum 0 accepted"),
 ];
 /// From here on they are slips of reading.
-const READING: usize = 10;
+const READING: usize = 12;
 
 pub fn run(limits: Limits) -> Result<String, String> {
     let seed = limits.seed.unwrap_or(SEED);

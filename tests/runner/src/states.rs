@@ -50,7 +50,7 @@ fn p1_calls() -> Vec<Call> {
     vec![sem(1, 2), event(0, 1), all(7, 0, NEVER, &[1, 2])]
 }
 
-/// Every place occupied; lists of 1 to 64, both modes, with and without alert, and empty ones for any.
+/// Every place occupied; lists of 1 to 64 all over the handles, both modes, with and without alert, and empty ones for any.
 fn full_calls() -> Vec<Call> {
     let mut calls: Vec<Call> = (0..OBJECTS as u32)
         .map(|place| match place % 4 {
@@ -63,8 +63,8 @@ fn full_calls() -> Vec<Call> {
     for place in 0..WAITS as u32 {
         let mode = if place % 2 == 0 { Mode::All } else { Mode::Any };
         let length = [64, 0, 1, 2, 40, 64, 63, 63][place as usize % 8];
-        let alert = if place % 3 == 0 { 128 } else { 0 };
-        let list: Vec<u32> = (1..=length).collect();
+        let alert = if place % 3 == 0 { OBJECTS as u32 } else { 0 };
+        let list: Vec<u32> = (1..=length).map(|k| 14 * place + k).collect();
         calls.push(wait(mode, 7, alert, u64::from(place) + 1, &list));
     }
     calls

@@ -165,7 +165,7 @@ impl Tampering {
     fn buffers(&mut self) -> Result<(), String> {
         let [picture, short] = [PICTURE_BYTES, PICTURE_BYTES - 1].map(|bytes| Call::Picture { bytes });
         let read = Call::ReadMutex { handle: 2 };
-        let near = |byte: &isize| *byte < 400 || *byte > 32_760 || byte % STRIDE == 0;
+        let near = |byte: &isize| *byte < 400 || *byte > PICTURE_BYTES as isize - 8 || byte % STRIDE == 0;
         for byte in cells(MOST_BYTES).filter(near) {
             for (call, later) in [(&picture, 0), (&short, 0), (&read, 0), (&read, 1)] {
                 let tamper: Tamper = Box::new(move |library, _| *library.buffer.cell_mut(byte) ^= 1);

@@ -73,10 +73,10 @@ fn waits(state: &State, held: &Wait) -> Vec<Wait> {
         with(&|wait| wait.list.truncate(LIST - 1)),
     ];
     waits.extend([state.next, state.next - 1, 1, TICKETS_SPENT].map(|ticket| with(&|wait| wait.ticket = ticket)));
-    waits.extend([0, 1, 2, 3, 10, 64, 127, 128].map(|alert| with(&|wait| wait.alert = alert)));
+    waits.extend([0, 1, 2, 3, 10, 64, 128, 511, 512].map(|alert| with(&|wait| wait.alert = alert)));
     if held.list.len() < LIST {
         let first = held.list.first().copied().unwrap_or(1);
-        waits.extend([first, 1, 4, 128].map(|handle| with(&|wait| wait.list.push(handle))));
+        waits.extend([first, 1, 4, 512].map(|handle| with(&|wait| wait.list.push(handle))));
     }
     if held.alert != 0 && !held.list.is_empty() {
         waits.push(with(&|wait| wait.list[0] = wait.alert));

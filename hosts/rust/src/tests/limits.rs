@@ -28,6 +28,20 @@ fn object_places_run_out() {
 }
 
 #[test]
+fn handles_above_128_are_as_good_as_any() {
+    let (mut tables, handles) = full_of_semaphores();
+    let mut wake = WakeList::default();
+    let [first, far] = [Handle(129), Handle(257)];
+    tables.close(first).unwrap();
+    assert_eq!(tables.create_event(false, false), Ok(first));
+    assert_eq!(tables.wait_all(Wait::new(&[LAST, far], Owner(7))), queued(1));
+    assert_eq!(tables.wait_any(Wait::new(&[handles[0]], Owner(8)).alert(first)), queued(2));
+    assert!(records(tables.post(far, 1, &mut wake).unwrap().woken).is_empty());
+    assert_eq!(records(tables.post(LAST, 1, &mut wake).unwrap().woken), [woken(1, 0)]);
+    assert_eq!(records(tables.set(first, &mut wake).unwrap().woken), [woken(2, 1)]);
+}
+
+#[test]
 fn a_list_has_64_handles_at_most() {
     let (mut tables, handles) = full_of_semaphores();
     let longest = Wait::new(&handles[..MAX_LISTED], Owner(7));

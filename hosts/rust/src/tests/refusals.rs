@@ -43,7 +43,7 @@ fn a_semaphore_that_could_never_be_signaled_is_refused() {
 #[test]
 fn no_handle_but_an_objects_is_taken() {
     let mut tables = three_objects();
-    for handle in [Handle(0), NONE, Handle(128), Handle(129), Handle(u32::MAX)] {
+    for handle in [Handle(0), NONE, Handle(512), Handle(513), Handle(u32::MAX)] {
         refused(&mut tables, Refusal::Invalid, |t, _| t.close(handle));
         refused(&mut tables, Refusal::Invalid, |t, _| t.wait_any(Wait::new(&[SEM, handle], Owner(7))));
         refused(&mut tables, Refusal::Invalid, |t, _| t.wait_all(Wait::new(&[SEM, handle], Owner(7))));
@@ -103,7 +103,7 @@ fn waits_refuse_bad_arguments() {
         good.alert(SEM),
         good.alert(LOCK),
         good.alert(NONE),
-        good.alert(Handle(129)),
+        good.alert(Handle(513)),
     ];
     for wait in bad {
         refused(&mut tables, Refusal::Invalid, |t, _| t.wait_any(wait));

@@ -9,7 +9,7 @@ use std::format;
 use std::string::{String, ToString};
 use std::vec::Vec;
 
-const FIRST_WAIT: usize = 513;
+const FIRST_WAIT: usize = 2049;
 const WAIT_CELLS: usize = 71;
 
 /// A semaphore, a mutex of owner 5, handle 4 an auto event; waits 2 to 4 of one handle, of two with an alert, of none. Handle
@@ -127,11 +127,11 @@ fn a_bad_line_has_its_offset() {
 
 #[test]
 fn a_number_has_its_keys_range() {
-    let good = "next=3 objects=1 handle=128 kind=event signaled=0 manual=0 waits=1 wait=1 mode=any owner=1 clock=mono \
-                timeout=0 alert=128 n=1 obj=128";
+    let good = "next=3 objects=1 handle=512 kind=event signaled=0 manual=0 waits=1 wait=1 mode=any owner=1 clock=mono \
+                timeout=0 alert=512 n=1 obj=512";
     assert!(Tables::restore(with_sum(good)).is_ok());
-    let bad = "next=0 objects=129 handle=0 handle=129 kind=even signaled=2 manual=2 waits=33 wait=0 mode=both \
-               owner=4294967296 clock=none timeout=18446744073709551616 alert=129 n=65 obj=0 obj=129";
+    let bad = "next=0 objects=513 handle=0 handle=513 kind=even signaled=2 manual=2 waits=33 wait=0 mode=both \
+               owner=4294967296 clock=none timeout=18446744073709551616 alert=513 n=65 obj=0 obj=513";
     for bad in bad.split(' ') {
         let key = bad.split('=').next().unwrap();
         let at = good.split(' ').position(|word| word.starts_with(&format!("{key}="))).unwrap();
@@ -147,7 +147,7 @@ fn lines_as_due_that_are_wrong_together_have_offset_0() {
     let two = |a, b| format!("next=9 objects=2 {} {} waits=0", event(a, 0), event(b, 0));
     let queue = |a, b| format!("next=9 objects=0 waits=2 {} {}", wait(a, 0), wait(b, 0));
     let on_event = |signaled| format!("next=9 objects=1 {} waits=1 {} obj=1", event(1, signaled), wait(1, 1));
-    for good in [two(1, 2), two(1, 128), queue(1, 2), queue(7, 8), on_event(0)] {
+    for good in [two(1, 2), two(1, 512), queue(1, 2), queue(7, 8), on_event(0)] {
         assert!(Tables::restore(with_sum(&good)).is_ok(), "{good}");
     }
     // In each pair the order does not rise, or a number stands twice; then a ticket that was not given, a wait that could be

@@ -3,6 +3,7 @@ use borrow.Author.Needs.{needs}
 use Prim.Native.Nat.{ℕ, _≤_, _-_}
 use lib.ListN.{length, length-set}
 use mathlib.Core.Path.{_≡_}
+use Rattle.model.specs.Sizes.{objectPlaces}
 use Rattle.cases_objects.proofs.full.create_all.Statement.{statement}
 use Rattle.cases_objects.proofs.full.create_all.Tie as tie
 use Rattle.cases_objects.proofs.full.create_all.Reads as reads
@@ -10,10 +11,10 @@ use Rattle.cases_objects.proofs.full.create_all.Lts as lts
 use Rattle.cases_objects.proofs.full.create_some.Reads as create-some-reads
 
 abbrev Inv-loop : tie.InvT-loop
-Inv-loop t₀ i₀ t i = i ≤ 128
+Inv-loop t₀ i₀ t i = i ≤ objectPlaces
 
 abbrev μ-loop : tie.MeasureT-loop
-μ-loop t₀ i₀ t i = 128 - i
+μ-loop t₀ i₀ t i = objectPlaces - i
 
 loop-holds : tie.Need-loop-holds Inv-loop μ-loop
 loop-holds c = search needs

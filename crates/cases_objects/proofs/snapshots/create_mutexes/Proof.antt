@@ -1,16 +1,17 @@
 use native.Mathlib.Omega.{arith}
 use borrow.Author.Needs.{needs}
 use Prim.Native.Nat.{ℕ, _≤_, _-_}
+use Rattle.model.specs.Sizes.{objectPlaces}
 use Rattle.cases_objects.proofs.snapshots.create_mutexes.Statement.{statement}
 use Rattle.cases_objects.proofs.snapshots.create_mutexes.Tie as tie
 use Rattle.cases_objects.proofs.snapshots.create_mutexes.Reads as reads
 use Rattle.cases_objects.proofs.snapshots.create_mutexes.Lts as lts
 
 abbrev Inv-loop : tie.InvT-loop
-Inv-loop t₀ i₀ t i = i ≤ 127
+Inv-loop t₀ i₀ t i = i ≤ objectPlaces - 1
 
 abbrev μ-loop : tie.MeasureT-loop
-μ-loop t₀ i₀ t i = 127 - i
+μ-loop t₀ i₀ t i = objectPlaces - 1 - i
 
 loop-holds : tie.Need-loop-holds Inv-loop μ-loop
 loop-holds c = search needs
