@@ -18,8 +18,11 @@ import sys
 TOKEN = re.compile(r"[A-Za-z_0-9₀-₉'′◌+*-]+")
 HEAD = re.compile(r"^(?P<indent>\s*)(?:(?:abbrev|unfoldable|data|record)\s+)?(?:pub\s+)?(?P<name>[A-Za-z][\w'-]*)\s*(?::|\s\(|\s\{|\s:)")
 FIELD = re.compile(r"^\s+(?:pub\s+)?(?P<name>[A-Za-z][\w'-]*)\s*(?:\{[^}]*\}\s*)?:\s")
-# Names that would fall together with another name; said here, one by one.
-SPECIAL = {}
+# A lemma that would get the name of the function that it is about gets _lem, as in the kit's own library. These three had
+# that name from port.py on; in crate refine, and where it is imported from there, it is the lemma.
+LEMMAS = {"owner_at": "owner_at_lem", "count_at": "count_at_lem", "put_record": "put_record_lem"}
+# Modules with a name that Rattle makes itself.
+MODULES = [("crates/reader/specs/Contracts.antt", "crates/reader/specs/Values.antt", "reader.specs.Contracts", "reader.specs.Values")]
 
 
 def snake(name):
@@ -53,16 +56,19 @@ def defined():
 
 def mapping():
     names = defined()
-    new = {}
-    for name in names:
-        if name[0].isupper() or not re.search(r"[A-Z-]", name):
-            continue
-        new[name] = SPECIAL.get(name, snake(name))
+    turned = [n for n in names if not n[0].isupper() and re.search(r"[A-Z-]", n)]
+    taken = set(names) | {snake(n) for n in turned if "-" not in n}
+    new = {n: snake(n) + ("_lem" if "-" in n and snake(n) in taken else "") for n in turned}
     return new, names
 
 
 def respell(text, new):
     return TOKEN.sub(lambda m: new.get(m.group(0), m.group(0)), text)
+
+
+def in_walk(text, new):
+    """A proof of one function: what follows a dot is a step or a field that Rattle made, unless a capital shows a name of ours."""
+    return re.sub(r"(\.)?(" + TOKEN.pattern + ")", lambda m: m.group(0) if m.group(1) and "-" in m.group(2) else (m.group(1) or "") + new.get(m.group(2), m.group(2)), text)
 
 
 def in_code(text, new):
@@ -75,10 +81,21 @@ def in_prose(text, new):
     return re.sub(r"`[^`\n]+`", lambda m: respell(m.group(0), new), text)
 
 
+def edit(path, how):
+    with open(path, encoding="utf-8") as f:
+        was = f.read()
+    now = how(was)
+    if now != was:
+        with open(path, "w", encoding="utf-8") as f:
+            f.write(now)
+
+
 def files():
-    for pattern in ("crates/*/specs/**/*.antt", "crates/*/proofs/**/*.antt"):
-        for p in glob.glob(pattern, recursive=True):
+    for pattern in ("crates/*/specs/*.antt", "crates/*/proofs/*.antt"):
+        for p in glob.glob(pattern):
             yield p, respell
+    for p in glob.glob("crates/*/proofs/*/*.antt"):
+        yield p, in_walk
     for pattern in ("crates/*/src/**/*.rt", "crates/*/must-fail/*.edit"):
         for p in glob.glob(pattern, recursive=True):
             yield p, in_code
@@ -86,6 +103,16 @@ def files():
         for p in glob.glob(pattern, recursive=True):
             if os.path.basename(p) not in ("PORT.md", "DECISIONS-OLD.md"):
                 yield p, in_prose
+
+
+def kit_names(text):
+    """What a file imports from the kit keeps the kit's spelling in it."""
+    out = set()
+    for module, listed in re.findall(r"^(?:pub )?(?:ghost )?use ([^\s{]+)\.\{([^}]*)\}", text, re.M):
+        own = re.match(r"Rattle\.(\w+)\.", module)
+        if not (own and os.path.isdir("crates/" + own.group(1))):
+            out |= {n.strip() for n in listed.split(",")}
+    return out
 
 
 def main(argv):
@@ -97,11 +124,25 @@ def main(argv):
     if argv:
         print(__doc__)
         return 2
+    for was, path, old_module, new_module in MODULES:
+        if os.path.exists(was):
+            os.rename(was, path)
+            lib = os.path.join(os.path.dirname(path), "Lib.antt")
+            edit(lib, lambda t: t.replace("mod " + old_module.split(".")[-1], "mod " + new_module.split(".")[-1]))
+            for p, _ in files():
+                edit(p, lambda t: t.replace(old_module, new_module))
+    for p in glob.glob("crates/*/proofs/**/*.antt", recursive=True):
+        text = open(p, encoding="utf-8").read()
+        cited = re.findall(r"^use Rattle\.refine\.proofs\.\w+\.\{(.*)\}", text, re.M)
+        here = {k: v for k, v in LEMMAS.items() if p.startswith("crates/refine/") or any(re.search(r"\b" + k + r"\b", c) for c in cited)}
+        if here:
+            edit(p, lambda t: in_walk(t, here) if "/proofs/" in p and p.count("/") > 3 else respell(t, here))
     changed = 0
     for path, how in files():
         with open(path, encoding="utf-8") as f:
             was = f.read()
-        now = how(was, new)
+        kit = kit_names(was) if path.endswith((".antt", ".rt")) else ()
+        now = how(was, {k: v for k, v in new.items() if k not in kit})
         if now != was:
             changed += 1
             with open(path, "w", encoding="utf-8") as f:

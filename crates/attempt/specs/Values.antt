@@ -3,5 +3,5 @@ use Rattle.std.specs.Prelude.{ℕ, List}
 use Rattle.cells.specs.Attempt.{Tried}
 use Rattle.attempt.specs.declared.Attempted.{Attempted}
 
-abbrev pub triedBy : Attempted → List ℕ → Tried
-triedBy r t = record { served = r.served; answer = r.answer; index = r.index; tables = t }
+abbrev pub tried_by : Attempted → List ℕ → Tried
+tried_by r t = record { served = r.served; answer = r.answer; index = r.index; tables = t }

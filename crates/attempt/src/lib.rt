@@ -1,10 +1,10 @@
 // An attempt over a list of handles: what is signaled, what a look finds, what is acquired. The list is lent: a fresh wait's
 // own, or a copy of a queued one's.
 ghost use Rattle.std.specs.Prelude.{◌≡◌, cond, length};
-ghost use Rattle.model.specs.Calls.{timeUp};
-ghost use Rattle.model.specs.Layout.{tableLength};
-ghost use Rattle.cells.specs.Attempt.{signaledAt, acquireAt, abandonedAt, lookAny, lookAll, acquireFirst, abandonedFirst, takeOne, takeAll, byAlert, tryAny, tryAll, tryList};
-ghost use Rattle.attempt.specs.Values.{triedBy};
+ghost use Rattle.model.specs.Calls.{time_up};
+ghost use Rattle.model.specs.Layout.{table_length};
+ghost use Rattle.cells.specs.Attempt.{signaled_at, acquire_at, abandoned_at, look_any, look_all, acquire_first, abandoned_first, take_one, take_all, by_alert, try_any, try_all, try_list};
+ghost use Rattle.attempt.specs.Values.{tried_by};
 
 const NEVER: u64 = 18446744073709551615;
 
@@ -19,7 +19,7 @@ pub struct Attempted {
 // ---- time
 
 pub fn time_up(timeout: u64, time: u64) -> bool
-    ensures { result ≡ timeUp timeout time }
+    ensures { result ≡ time_up timeout time }
 {
     (timeout <= time) & !(timeout == NEVER)
 }
@@ -27,8 +27,8 @@ pub fn time_up(timeout: u64, time: u64) -> bool
 // ---- one object, by handle
 
 pub fn signaled(t: &[u64], asking: u64, h: u64) -> bool
-    requires { length t.now ≡ tableLength }
-    ensures { result ≡ signaledAt t.now asking h }
+    requires { length t.now ≡ table_length }
+    ensures { result ≡ signaled_at t.now asking h }
 {
     let o = tables::named(t, h);
     o.signaled(asking)
@@ -36,8 +36,8 @@ pub fn signaled(t: &[u64], asking: u64, h: u64) -> bool
 
 // Whether it had been abandoned.
 pub fn acquire(t: &mut [u64], asking: u64, h: u64) -> bool
-    requires { length t.old ≡ tableLength }
-    ensures { (t.new ≡ acquireAt t.old asking h) × (result ≡ abandonedAt t.old h) }
+    requires { length t.old ≡ table_length }
+    ensures { (t.new ≡ acquire_at t.old asking h) × (result ≡ abandoned_at t.old h) }
 {
     let o = tables::named(t, h);
     let a = o.acquire(asking);
@@ -49,8 +49,8 @@ pub fn acquire(t: &mut [u64], asking: u64, h: u64) -> bool
 
 // The lowest signaled index; the length where there is none.
 pub fn look_any(t: &[u64], asking: u64, list: &[u64]) -> usize
-    requires { length t.now ≡ tableLength }
-    ensures { result ≡ lookAny t.now asking list.now }
+    requires { length t.now ≡ table_length }
+    ensures { result ≡ look_any t.now asking list.now }
 {
     let mut i: usize = 0;
     while i < list.len() {
@@ -66,8 +66,8 @@ pub fn look_any(t: &[u64], asking: u64, list: &[u64]) -> usize
 
 // Stops at the first object that is not signaled.
 pub fn look_all(t: &[u64], asking: u64, list: &[u64]) -> bool
-    requires { length t.now ≡ tableLength }
-    ensures { result ≡ lookAll t.now asking list.now }
+    requires { length t.now ≡ table_length }
+    ensures { result ≡ look_all t.now asking list.now }
 {
     let mut i: usize = 0;
     while i < list.len() {
@@ -83,9 +83,9 @@ pub fn look_all(t: &[u64], asking: u64, list: &[u64]) -> bool
 
 // Every object of the list is acquired; whether one had been abandoned.
 pub fn acquire_list(t: &mut [u64], asking: u64, list: &[u64]) -> bool
-    requires { length t.old ≡ tableLength }
-    ensures { (t.new ≡ acquireFirst t.old asking list.now (length list.now))
-        × (result ≡ abandonedFirst t.old asking list.now (length list.now)) }
+    requires { length t.old ≡ table_length }
+    ensures { (t.new ≡ acquire_first t.old asking list.now (length list.now))
+        × (result ≡ abandoned_first t.old asking list.now (length list.now)) }
 {
     let mut dead = false;
     let mut i: usize = 0;
@@ -111,8 +111,8 @@ fn answer_of(dead: bool) -> u32
 
 // The object that h names is acquired; the wait is served with index i.
 pub fn take_one(t: &mut [u64], asking: u64, h: u64, i: u64) -> Attempted
-    requires { length t.old ≡ tableLength }
-    ensures { triedBy result t.new ≡ takeOne t.old asking h i }
+    requires { length t.old ≡ table_length }
+    ensures { tried_by result t.new ≡ take_one t.old asking h i }
 {
     let dead = acquire(t, asking, h);
     let answer = answer_of(dead);
@@ -125,8 +125,8 @@ pub fn take_one(t: &mut [u64], asking: u64, h: u64, i: u64) -> Attempted
 
 // Every object of the list is acquired; the wait is served with index 0.
 pub fn take_list(t: &mut [u64], asking: u64, list: &[u64]) -> Attempted
-    requires { length t.old ≡ tableLength }
-    ensures { triedBy result t.new ≡ takeAll t.old asking list.now }
+    requires { length t.old ≡ table_length }
+    ensures { tried_by result t.new ≡ take_all t.old asking list.now }
 {
     let dead = acquire_list(t, asking, list);
     let answer = answer_of(dead);
@@ -139,8 +139,8 @@ pub fn take_list(t: &mut [u64], asking: u64, list: &[u64]) -> Attempted
 
 // The alert, after a list of n handles.
 pub fn by_alert(t: &mut [u64], asking: u64, alert: u64, n: u64) -> Attempted
-    requires { length t.old ≡ tableLength }
-    ensures { triedBy result t.new ≡ byAlert t.old asking alert n }
+    requires { length t.old ≡ table_length }
+    ensures { tried_by result t.new ≡ by_alert t.old asking alert n }
 {
     let here = signaled(t, asking, alert);
     if here {
@@ -154,8 +154,8 @@ pub fn by_alert(t: &mut [u64], asking: u64, alert: u64, n: u64) -> Attempted
 }
 
 fn try_any(t: &mut [u64], asking: u64, alert: u64, list: &[u64]) -> Attempted
-    requires { length t.old ≡ tableLength }
-    ensures { triedBy result t.new ≡ tryAny t.old asking alert list.now }
+    requires { length t.old ≡ table_length }
+    ensures { tried_by result t.new ≡ try_any t.old asking alert list.now }
 {
     let n = list.len();
     let i = look_any(t, asking, list);
@@ -166,8 +166,8 @@ fn try_any(t: &mut [u64], asking: u64, alert: u64, list: &[u64]) -> Attempted
 }
 
 fn try_all(t: &mut [u64], asking: u64, alert: u64, list: &[u64]) -> Attempted
-    requires { length t.old ≡ tableLength }
-    ensures { triedBy result t.new ≡ tryAll t.old asking alert list.now }
+    requires { length t.old ≡ table_length }
+    ensures { tried_by result t.new ≡ try_all t.old asking alert list.now }
 {
     let n = list.len();
     let ready = look_all(t, asking, list);
@@ -179,8 +179,8 @@ fn try_all(t: &mut [u64], asking: u64, alert: u64, list: &[u64]) -> Attempted
 
 // Mode 0 is any.
 pub fn try_list(t: &mut [u64], mode: u64, asking: u64, alert: u64, list: &[u64]) -> Attempted
-    requires { length t.old ≡ tableLength }
-    ensures { triedBy result t.new ≡ tryList t.old mode asking alert list.now }
+    requires { length t.old ≡ table_length }
+    ensures { tried_by result t.new ≡ try_list t.old mode asking alert list.now }
 {
     if mode == 0 {
         return try_any(t, asking, alert, list);

@@ -1,7 +1,7 @@
 // The sum of the bytes of a lent slice, modulo 2^32.
 ghost use Rattle.std.specs.Prelude.{◌≡◌, ◌%◌};
 ghost use Rattle.model.specs.Sizes.{word32};
-ghost use Rattle.model.specs.Snapshot.{byteSum};
+ghost use Rattle.model.specs.Snapshot.{byte_sum};
 
 fn wide(b: u8) -> u32
     ensures { result ≡ b }
@@ -10,7 +10,7 @@ fn wide(b: u8) -> u32
 }
 
 pub fn byte_sum(bytes: &[u8]) -> u32
-    ensures { result ≡ byteSum bytes.now % word32 }
+    ensures { result ≡ byte_sum bytes.now % word32 }
 {
     let mut sum: u32 = 0;
     let mut i: usize = 0;

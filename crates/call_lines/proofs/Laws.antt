@@ -20,11 +20,11 @@ module _ {value : ℕ} {list : List ℕ} {from : ℕ} where
   passed_none = record { reached = omega arith; kept = λ k below above. absurd (omega arith) }
 
   module _ {i : ℕ} (p : Passed value list from i) where
-    pub passed-more : get_or list i 0 ≡ value → Passed value list from (i + 1)
-    passed-more e = record { reached = omega arith; kept = below_more _ i p.kept (λ above. e) }
+    pub passed_more : get_or list i 0 ≡ value → Passed value list from (i + 1)
+    passed_more e = record { reached = omega arith; kept = below_more _ i p.kept (λ above. e) }
 
-    pub all-kept : length list ≤ i → (true ≡ true) ↔ Kept value list from
-    all-kept h = ((λ e k below. p.kept k (omega arith)), (λ kept. refl))
+    pub all_kept : length list ≤ i → (true ≡ true) ↔ Kept value list from
+    all_kept h = ((λ e k below. p.kept k (omega arith)), (λ kept. refl))
 
-    pub one-altered : i < length list → (get_or list i 0 ≡ value → ⊥) → (false ≡ true) ↔ Kept value list from
-    one-altered h n = ((λ e. clash e refl), (λ kept. absurd (n (kept i h p.reached))))
+    pub one_altered : i < length list → (get_or list i 0 ≡ value → ⊥) → (false ≡ true) ↔ Kept value list from
+    one_altered h n = ((λ e. clash e refl), (λ kept. absurd (n (kept i h p.reached))))

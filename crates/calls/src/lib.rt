@@ -1,14 +1,14 @@
 // The calls that wake nobody, each behind its refusals, in their order. Reading asks for valid tables: their objects' numbers
 // have 32 bits.
 ghost use Rattle.std.specs.Prelude.{◌≡◌, [], ◌<◌, length, true};
-ghost use Rattle.model.specs.Sizes.{waitPlaces};
-ghost use Rattle.model.specs.Calls.{nothingLent, aSemaphore, aMutex, anEvent};
-ghost use Rattle.model.specs.Layout.{tableLength};
-ghost use Rattle.cells.specs.Fold.{someBelow};
-ghost use Rattle.cells.specs.Validity.{validCells};
-ghost use Rattle.cells.specs.Calls.{answered, createCells, busyAt, closeCells, readPair, readCells, resetCells, cancelCells};
+ghost use Rattle.model.specs.Sizes.{wait_places};
+ghost use Rattle.model.specs.Calls.{nothing_lent, aSemaphore, aMutex, anEvent};
+ghost use Rattle.model.specs.Layout.{table_length};
+ghost use Rattle.cells.specs.Fold.{some_below};
+ghost use Rattle.cells.specs.Validity.{valid_cells};
+ghost use Rattle.cells.specs.Calls.{answered, create_cells, busy_at, close_cells, read_pair, read_cells, reset_cells, cancel_cells};
 ghost use Rattle.kinds.specs.Values.{cells_of};
-ghost use Rattle.calls.specs.Values.{leftBy};
+ghost use Rattle.calls.specs.Values.{left_by};
 
 use kinds::{Event, Mutex, Object, Semaphore};
 
@@ -28,8 +28,8 @@ pub struct Numbers {
 
 // A new object at the lowest empty place; `bad` is true where its numbers are refused.
 pub fn create(t: &mut [u64], bad: bool, o: Object) -> Numbered
-    requires { length t.old ≡ tableLength }
-    ensures { answered result.answer result.number 0 t.new nothingLent ≡ createCells bad (cells_of o) t.old nothingLent }
+    requires { length t.old ≡ table_length }
+    ensures { answered result.answer result.number 0 t.new nothing_lent ≡ create_cells bad (cells_of o) t.old nothing_lent }
 {
     if bad {
         return Numbered {
@@ -53,8 +53,8 @@ pub fn create(t: &mut [u64], bad: bool, o: Object) -> Numbered
 
 // The wait at place p, if one is queued there, names h.
 fn busy_at(t: &[u64], h: u64, p: usize) -> bool
-    requires { (p < waitPlaces) × (length t.now ≡ tableLength) }
-    ensures { result ≡ busyAt t.now h p }
+    requires { (p < wait_places) × (length t.now ≡ table_length) }
+    ensures { result ≡ busy_at t.now h p }
 {
     let ticket = tables::ticket_at(t, p);
     if ticket == 0 {
@@ -64,8 +64,8 @@ fn busy_at(t: &[u64], h: u64, p: usize) -> bool
 }
 
 fn busy(t: &[u64], h: u64) -> bool
-    requires { length t.now ≡ tableLength }
-    ensures { result ≡ someBelow (busyAt t.now h) waitPlaces }
+    requires { length t.now ≡ table_length }
+    ensures { result ≡ some_below (busy_at t.now h) wait_places }
 {
     let mut found = false;
     let mut p: usize = 0;
@@ -78,8 +78,8 @@ fn busy(t: &[u64], h: u64) -> bool
 }
 
 pub fn close(t: &mut [u64], h: u64) -> u32
-    requires { length t.old ≡ tableLength }
-    ensures { answered result 0 0 t.new nothingLent ≡ closeCells h t.old nothingLent }
+    requires { length t.old ≡ table_length }
+    ensures { answered result 0 0 t.new nothing_lent ≡ close_cells h t.old nothing_lent }
 {
     let empty = !validity::occupied(t, h);
     if empty {
@@ -104,8 +104,8 @@ pub fn close(t: &mut [u64], h: u64) -> u32
 
 // The count and the attribute of an object of this kind.
 fn read_pair(t: &[u64], h: u64, kind: u64) -> Numbers
-    requires { (length t.now ≡ tableLength) × (validCells t.now ≡ true) }
-    ensures { leftBy result t.now ≡ readPair kind h t.now nothingLent }
+    requires { (length t.now ≡ table_length) × (valid_cells t.now ≡ true) }
+    ensures { left_by result t.now ≡ read_pair kind h t.now nothing_lent }
 {
     let o = tables::named(t, h);
     if o.kind == kind {
@@ -123,23 +123,23 @@ fn read_pair(t: &[u64], h: u64, kind: u64) -> Numbers
 }
 
 pub fn read_semaphore(t: &[u64], h: u64) -> Numbers
-    requires { (length t.now ≡ tableLength) × (validCells t.now ≡ true) }
-    ensures { leftBy result t.now ≡ readCells aSemaphore h t.now nothingLent }
+    requires { (length t.now ≡ table_length) × (valid_cells t.now ≡ true) }
+    ensures { left_by result t.now ≡ read_cells aSemaphore h t.now nothing_lent }
 {
     read_pair(t, h, Semaphore::KIND)
 }
 
 pub fn read_event(t: &[u64], h: u64) -> Numbers
-    requires { (length t.now ≡ tableLength) × (validCells t.now ≡ true) }
-    ensures { leftBy result t.now ≡ readCells anEvent h t.now nothingLent }
+    requires { (length t.now ≡ table_length) × (valid_cells t.now ≡ true) }
+    ensures { left_by result t.now ≡ read_cells anEvent h t.now nothing_lent }
 {
     read_pair(t, h, Event::KIND)
 }
 
 // An abandoned mutex is told by its answer alone.
 pub fn read_mutex(t: &[u64], h: u64) -> Numbers
-    requires { (length t.now ≡ tableLength) × (validCells t.now ≡ true) }
-    ensures { leftBy result t.now ≡ readCells aMutex h t.now nothingLent }
+    requires { (length t.now ≡ table_length) × (valid_cells t.now ≡ true) }
+    ensures { left_by result t.now ≡ read_cells aMutex h t.now nothing_lent }
 {
     let o = tables::named(t, h);
     if o.kind != Mutex::KIND {
@@ -164,8 +164,8 @@ pub fn read_mutex(t: &[u64], h: u64) -> Numbers
 }
 
 pub fn reset(t: &mut [u64], h: u64) -> Numbered
-    requires { (length t.old ≡ tableLength) × (validCells t.old ≡ true) }
-    ensures { answered result.answer result.number 0 t.new nothingLent ≡ resetCells h t.old nothingLent }
+    requires { (length t.old ≡ table_length) × (valid_cells t.old ≡ true) }
+    ensures { answered result.answer result.number 0 t.new nothing_lent ≡ reset_cells h t.old nothing_lent }
 {
     let o = tables::named(t, h);
     let previous = o.count as u32;
@@ -184,8 +184,8 @@ pub fn reset(t: &mut [u64], h: u64) -> Numbered
 }
 
 pub fn cancel(t: &mut [u64], ticket: u64) -> u32
-    requires { length t.old ≡ tableLength }
-    ensures { answered result 0 0 t.new nothingLent ≡ cancelCells ticket t.old nothingLent }
+    requires { length t.old ≡ table_length }
+    ensures { answered result 0 0 t.new nothing_lent ≡ cancel_cells ticket t.old nothing_lent }
 {
     if ticket == 0 {
         return 1;

@@ -9,8 +9,8 @@ use native.Mathlib.Numerals.{add-one}
 use lib.Dec.{ltb}
 use lib.ListN.{length, get_or, set, take, drop, length-append}
 use lib.Seq.{sets, sets-eq, length-sets, length-take-le, take-suc, take_all, set_comm}
-use Rattle.model.specs.Snapshot.{digitsUpTo}
-use Rattle.model.proofs.Digits.{digits-one, digits_more}
+use Rattle.model.specs.Snapshot.{digits_up_to}
+use Rattle.model.proofs.Digits.{digits_one, digits_more}
 use Rattle.decimal.specs.Text.{Room, Wrote}
 
 sets_then : (buf x y : List ℕ) (at : ℕ) → sets (sets buf at x) (at + length x) y ≡ sets buf at (x ++ y)
@@ -19,60 +19,60 @@ sets_then buf (b ∷ x) y at = let e : at + suc (length x) ≡ suc at + length x
 
 -- what two calls wrote is the two texts, one after the other
 module _ (buf : List ℕ) (at : ℕ) (x y : List ℕ) where
-  pub first-room : Room buf at (x ++ y) → Room buf at x
-  first-room h = let e = length-append x y in omega arith
+  pub first_room : Room buf at (x ++ y) → Room buf at x
+  first_room h = let e = length-append x y in omega arith
 
   module _ {r : ℕ} {next : List ℕ} (w : Wrote buf at x r next) where
-    pub then-room : Room buf at (x ++ y) → Room next r y
-    then-room h = let e = length-append x y in let l : length next ≡ length buf = ap length w.0 ∙ length-sets buf at x in let p : r ≡ at + length x = w.1 in omega arith
+    pub then_room : Room buf at (x ++ y) → Room next r y
+    then_room h = let e = length-append x y in let l : length next ≡ length buf = ap length w.0 ∙ length-sets buf at x in let p : r ≡ at + length x = w.1 in omega arith
 
-    pub then-wrote : {last : ℕ} {end : List ℕ} → Wrote next r y last end → Wrote buf at (x ++ y) last end
-    then-wrote v = (v.0 ∙ rw (w.0, w.1) (sets_then buf x y at), v.1 ∙ (let e = length-append x y in let p : r ≡ at + length x = w.1 in omega arith))
+    pub then_wrote : {last : ℕ} {end : List ℕ} → Wrote next r y last end → Wrote buf at (x ++ y) last end
+    then_wrote v = (v.0 ∙ rw (w.0, w.1) (sets_then buf x y at), v.1 ∙ (let e = length-append x y in let p : r ≡ at + length x = w.1 in omega arith))
 
 -- one more byte of a text
-pub wrote-more : (buf text : List ℕ) (at i : ℕ) {now : List ℕ} → i < length text → now ≡ sets buf at (take i text) → set now (at + i) (get_or text i 0) ≡ sets buf at (take (i + 1) text)
-wrote-more buf text at i {now} l e = let X : List ℕ = take i text in let b : ℕ = get_or text i 0 in let k : length X ≡ i = length-take-le i text (omega arith) in
+pub wrote_more : (buf text : List ℕ) (at i : ℕ) {now : List ℕ} → i < length text → now ≡ sets buf at (take i text) → set now (at + i) (get_or text i 0) ≡ sets buf at (take (i + 1) text)
+wrote_more buf text at i {now} l e = let X : List ℕ = take i text in let b : ℕ = get_or text i 0 in let k : length X ≡ i = length-take-le i text (omega arith) in
     rw (add-one, take-suc text i 0 l, e) (ap (λ (j : ℕ). set (sets buf at X) (at + j) b) (sym k) ∙ sets_then buf X (b ∷ []) at)
 
-pub wrote-all : (buf text : List ℕ) (at i : ℕ) {now : List ℕ} → i ≡ length text → now ≡ sets buf at (take i text) → Wrote buf at text (at + i) now
-wrote-all buf text at i z e = (e ∙ ap (λ (x : List ℕ). sets buf at x) (take_all i text (omega arith)), ap (λ (j : ℕ). at + j) z)
+pub wrote_all : (buf text : List ℕ) (at i : ℕ) {now : List ℕ} → i ≡ length text → now ≡ sets buf at (take i text) → Wrote buf at text (at + i) now
+wrote_all buf text at i z e = (e ∙ ap (λ (x : List ℕ). sets buf at x) (take_all i text (omega arith)), ap (λ (j : ℕ). at + j) z)
 
 -- COUNTING: one digit, or one more than the tenth has
-pub count-one : (n : ℕ) → n < 10 → length (digitsUpTo 19 n) ≡ 1
-count-one n h = ap length (digits-one n h)
+pub count_one : (n : ℕ) → n < 10 → length (digits_up_to 19 n) ≡ 1
+count_one n h = ap length (digits_one n h)
 
 -- twenty digits are enough
 below : (n : ℕ) → n < 2 ^ 64 → n < 10 ^ 20
 below n h = let a : 2 ^ 64 ≡ 18446744073709551616 = refl in let b : 10 ^ 20 ≡ 100000000000000000000 = refl in omega arith
 
-pub count-more : (n : ℕ) → 10 ≤ n → n < 2 ^ 64 → length (digitsUpTo 19 n) ≡ suc (length (digitsUpTo 19 (n / 10)))
-count-more n l h = let e = length-append (digitsUpTo 19 (n / 10)) ((48 + n % 10) ∷ []) in ap length (digits_more n l (below n h)) ∙ omega arith
+pub count_more : (n : ℕ) → 10 ≤ n → n < 2 ^ 64 → length (digits_up_to 19 n) ≡ suc (length (digits_up_to 19 (n / 10)))
+count_more n l h = let e = length-append (digits_up_to 19 (n / 10)) ((48 + n % 10) ∷ []) in ap length (digits_more n l (below n h)) ∙ omega arith
 
-pub count-some : (n : ℕ) → 1 ≤ length (digitsUpTo 19 n)
-unfolding digitsUpTo
-count-some n = let front = cond (ltb n 10) [] (digitsUpTo 18 (n / 10)) in let e = length-append front ((48 + n % 10) ∷ []) in omega arith
+pub count_some : (n : ℕ) → 1 ≤ length (digits_up_to 19 n)
+unfolding digits_up_to
+count_some n = let front = cond (ltb n 10) [] (digits_up_to 18 (n / 10)) in let e = length-append front ((48 + n % 10) ∷ []) in omega arith
 
 -- WRITING: a byte behind a text may be stored before the text is
-sets-past : (x buf : List ℕ) (at j b : ℕ) → at + length x ≤ j → set (sets buf at x) j b ≡ sets (set buf j b) at x
-sets-past [] buf at j b h = refl
-sets-past (a ∷ x) buf at j b h = sets-past x (set buf at a) (suc at) j b (omega arith) ∙ ap (λ (s : List ℕ). sets s (suc at) x) (set_comm buf at j a b (λ e. omega arith))
+sets_past : (x buf : List ℕ) (at j b : ℕ) → at + length x ≤ j → set (sets buf at x) j b ≡ sets (set buf j b) at x
+sets_past [] buf at j b h = refl
+sets_past (a ∷ x) buf at j b h = sets_past x (set buf at a) (suc at) j b (omega arith) ∙ ap (λ (s : List ℕ). sets s (suc at) x) (set_comm buf at j a b (λ e. omega arith))
 
 -- the last digit stored at its place, or the only one: those of the tenth are left to write, or none
-module _ (buf : List ℕ) (at place n : ℕ) (p : place + 1 ≡ at + length (digitsUpTo 19 n)) where
-  pub digit-more : 10 ≤ n → n < 2 ^ 64 → sets (set buf place (48 + n % 10)) at (digitsUpTo 19 (n / 10)) ≡ sets buf at (digitsUpTo 19 n)
-  digit-more l h = let x : List ℕ = digitsUpTo 19 (n / 10) in let d : ℕ = 48 + n % 10 in let c = count-more n l h in let e : place ≡ at + length x = omega arith in
-      rw (e, digits_more n l (below n h)) (sym (sets-past x buf at (at + length x) d (omega arith)) ∙ sets_then buf x (d ∷ []) at)
+module _ (buf : List ℕ) (at place n : ℕ) (p : place + 1 ≡ at + length (digits_up_to 19 n)) where
+  pub digit_more : 10 ≤ n → n < 2 ^ 64 → sets (set buf place (48 + n % 10)) at (digits_up_to 19 (n / 10)) ≡ sets buf at (digits_up_to 19 n)
+  digit_more l h = let x : List ℕ = digits_up_to 19 (n / 10) in let d : ℕ = 48 + n % 10 in let c = count_more n l h in let e : place ≡ at + length x = omega arith in
+      rw (e, digits_more n l (below n h)) (sym (sets_past x buf at (at + length x) d (omega arith)) ∙ sets_then buf x (d ∷ []) at)
 
-  pub digit-one : n < 10 → set buf place (48 + n) ≡ sets buf at (digitsUpTo 19 n)
-  digit-one h = let c = count-one n h in let e : place ≡ at = omega arith in rw (e, digits-one n h)
+  pub digit_one : n < 10 → set buf place (48 + n) ≡ sets buf at (digits_up_to 19 n)
+  digit_one h = let c = count_one n h in let e : place ≡ at = omega arith in rw (e, digits_one n h)
 
 -- what was written at the front of a buffer is its front
-take-front : (x r : List ℕ) → take (length x) (x ++ r) ≡ x
-take-front [] r = refl
-take-front (b ∷ x) r = ap (λ (l : List ℕ). b ∷ l) (take-front x r)
+take_front : (x r : List ℕ) → take (length x) (x ++ r) ≡ x
+take_front [] r = refl
+take_front (b ∷ x) r = ap (λ (l : List ℕ). b ∷ l) (take_front x r)
 
-pub front-is : (buf x : List ℕ) (r : ℕ) (end : List ℕ) → Room buf 0 x → Wrote buf 0 x r end → take r end ≡ x
-front-is buf x r end l w = let p : r ≡ length x = (let q : r ≡ 0 + length x = w.1 in omega arith) in rw (p, w.0, sets-eq x buf 0 l) (take-front x (drop (0 + length x) buf))
+pub front_is : (buf x : List ℕ) (r : ℕ) (end : List ℕ) → Room buf 0 x → Wrote buf 0 x r end → take r end ≡ x
+front_is buf x r end l w = let p : r ≡ length x = (let q : r ≡ 0 + length x = w.1 in omega arith) in rw (p, w.0, sets-eq x buf 0 l) (take_front x (drop (0 + length x) buf))
 
-pub front-room : (buf x : List ℕ) (r : ℕ) (end : List ℕ) → Room buf 0 x → Wrote buf 0 x r end → r ≤ length end
-front-room buf x r end l w = let p : r ≡ 0 + length x = w.1 in let q : length end ≡ length buf = ap length w.0 ∙ length-sets buf 0 x in omega arith
+pub front_room : (buf x : List ℕ) (r : ℕ) (end : List ℕ) → Room buf 0 x → Wrote buf 0 x r end → r ≤ length end
+front_room buf x r end l w = let p : r ≡ 0 + length x = w.1 in let q : length end ≡ length buf = ap length w.0 ∙ length-sets buf 0 x in omega arith

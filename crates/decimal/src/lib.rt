@@ -1,6 +1,6 @@
 // Text and decimal numbers written into a lent byte slice at a position; each answers the position after what it wrote.
 ghost use Rattle.std.specs.Prelude.{◌≡◌, ◌++◌, ◌∷◌, [], length};
-ghost use Rattle.model.specs.Snapshot.{digitsUpTo};
+ghost use Rattle.model.specs.Snapshot.{digits_up_to};
 ghost use Rattle.decimal.specs.Text.{Room, Wrote};
 
 pub fn put_text(buf: &mut [u8], at: usize, text: &[u8]) -> usize
@@ -17,7 +17,7 @@ pub fn put_text(buf: &mut [u8], at: usize, text: &[u8]) -> usize
 
 // How many digits n has.
 fn digit_count(n: u64) -> usize
-    ensures { result ≡ length (digitsUpTo 19 n) }
+    ensures { result ≡ length (digits_up_to 19 n) }
 {
     let mut count: usize = 1;
     let mut front = n;
@@ -30,8 +30,8 @@ fn digit_count(n: u64) -> usize
 
 // The digits of n with no leading zeros, from the last one on, each straight to its place.
 pub fn put_number(buf: &mut [u8], at: usize, n: u64) -> usize
-    requires { Room buf.old at (digitsUpTo 19 n) }
-    ensures { Wrote buf.old at (digitsUpTo 19 n) result buf.new }
+    requires { Room buf.old at (digits_up_to 19 n) }
+    ensures { Wrote buf.old at (digits_up_to 19 n) result buf.new }
 {
     let end = at + digit_count(n);
     let mut place = end - 1;
@@ -47,8 +47,8 @@ pub fn put_number(buf: &mut [u8], at: usize, n: u64) -> usize
 
 // A key, a number and a line feed.
 pub fn put_line(buf: &mut [u8], at: usize, key: &[u8], n: u64) -> usize
-    requires { Room buf.old at (key.now ++ (digitsUpTo 19 n ++ (10 ∷ []))) }
-    ensures { Wrote buf.old at (key.now ++ (digitsUpTo 19 n ++ (10 ∷ []))) result buf.new }
+    requires { Room buf.old at (key.now ++ (digits_up_to 19 n ++ (10 ∷ []))) }
+    ensures { Wrote buf.old at (key.now ++ (digits_up_to 19 n ++ (10 ∷ []))) result buf.new }
 {
     let number = put_text(buf, at, key);
     let end = put_number(buf, number, n);

@@ -7,5 +7,5 @@ use Rattle.kinds.specs.declared.Change.{Change}
 abbrev pub cells_of : Object → Fields
 cells_of x = fields x.kind x.count x.owner x.attribute
 
-abbrev pub changeOf : Change → Changed
-changeOf c = changed c.answer (cells_of c.next)
+abbrev pub change_of : Change → Changed
+change_of c = changed c.answer (cells_of c.next)

@@ -1,12 +1,12 @@
 // The kinds of object, each with its own limits, and an object by value with its rules.
 ghost use Rattle.std.specs.Prelude.{◌≡◌, not, cond, eqb};
 ghost use Rattle.model.specs.Basics.{bit};
-ghost use Rattle.model.specs.Calls.{aSemaphore, aMutex, anEvent, badNew};
-ghost use Rattle.cells.specs.Objects.{fields, noFields, signaledFields, acquiredFields, abandonedFields};
-ghost use Rattle.cells.specs.Objects.{ifHeld, postFields, unlockFields, killFields, switchFields};
-ghost use Rattle.cells.specs.Validity.{validFields};
-ghost use Rattle.cells.specs.Calls.{newFields};
-ghost use Rattle.kinds.specs.Values.{cells_of, changeOf};
+ghost use Rattle.model.specs.Calls.{aSemaphore, aMutex, anEvent, bad_new};
+ghost use Rattle.cells.specs.Objects.{fields, no_fields, signaled_fields, acquired_fields, abandoned_fields};
+ghost use Rattle.cells.specs.Objects.{if_held, post_fields, unlock_fields, kill_fields, switch_fields};
+ghost use Rattle.cells.specs.Validity.{valid_fields};
+ghost use Rattle.cells.specs.Calls.{new_fields};
+ghost use Rattle.kinds.specs.Values.{cells_of, change_of};
 
 // An object as its cells hold it: what a kind has no use for is 0.
 #[derive(Drop)]
@@ -30,7 +30,7 @@ pub struct Creation {
 impl Creation {
     fn only_if(ok: bool, object: Object) -> Creation
         ensures ok { result.ok ≡ ok }
-        ensures object { cells_of result.object ≡ cond ok (cells_of object) noFields }
+        ensures object { cells_of result.object ≡ cond ok (cells_of object) no_fields }
     {
         if ok {
             return Creation { ok, object };
@@ -84,15 +84,15 @@ impl Semaphore {
 
     // The count does not exceed the maximum, and the maximum is within its limits.
     pub fn valid(count: u64, max: u64) -> bool
-        ensures { result ≡ validFields (fields 1 count 0 max) }
+        ensures { result ≡ valid_fields (fields 1 count 0 max) }
     {
         (count <= max) & (max <= Semaphore::MAX_COUNT) & (Semaphore::LOWEST_MAX <= max)
     }
 
     pub fn create(count: u32, max: u32) -> Creation
-        ensures ok { result.ok ≡ not (badNew aSemaphore count max) }
+        ensures ok { result.ok ≡ not (bad_new aSemaphore count max) }
         ensures object { cells_of result.object
-            ≡ cond (badNew aSemaphore count max) noFields (newFields aSemaphore count max) }
+            ≡ cond (bad_new aSemaphore count max) no_fields (new_fields aSemaphore count max) }
     {
         let s = Semaphore {
             count: count as u64,
@@ -104,7 +104,7 @@ impl Semaphore {
     }
 
     fn object(self) -> Object
-        ensures { cells_of result ≡ newFields aSemaphore self.count self.max }
+        ensures { cells_of result ≡ new_fields aSemaphore self.count self.max }
     {
         Object {
             kind: Semaphore::KIND,
@@ -137,7 +137,7 @@ impl Mutex {
 
     // Owner and count are both 0 or neither is; an abandoned mutex has no owner.
     pub fn valid(owner: u64, count: u64, abandoned: u64) -> bool
-        ensures { result ≡ validFields (fields 2 count owner abandoned) }
+        ensures { result ≡ valid_fields (fields 2 count owner abandoned) }
     {
         (owner <= Mutex::MAX_OWNER)
             & (count <= Mutex::MAX_COUNT)
@@ -147,9 +147,9 @@ impl Mutex {
     }
 
     pub fn create(owner: u32, count: u32) -> Creation
-        ensures ok { result.ok ≡ not (badNew aMutex owner count) }
+        ensures ok { result.ok ≡ not (bad_new aMutex owner count) }
         ensures object { cells_of result.object
-            ≡ cond (badNew aMutex owner count) noFields (newFields aMutex owner count) }
+            ≡ cond (bad_new aMutex owner count) no_fields (new_fields aMutex owner count) }
     {
         let m = Mutex {
             owner: owner as u64,
@@ -161,7 +161,7 @@ impl Mutex {
     }
 
     fn object(self) -> Object
-        ensures { cells_of result ≡ newFields aMutex self.owner self.count }
+        ensures { cells_of result ≡ new_fields aMutex self.owner self.count }
     {
         Object {
             kind: Mutex::KIND,
@@ -187,16 +187,16 @@ impl Event {
     pub const MANUAL: u64 = 1;
 
     pub fn valid(signaled: u64, manual: u64) -> bool
-        ensures { result ≡ validFields (fields 3 signaled 0 manual) }
+        ensures { result ≡ valid_fields (fields 3 signaled 0 manual) }
     {
         (signaled <= Event::SET) & (manual <= Event::MANUAL)
     }
 
     // Any number but 0 means 1, so nothing is refused.
     pub fn create(signaled: u32, manual: u32) -> Creation
-        ensures ok { result.ok ≡ not (badNew anEvent signaled manual) }
+        ensures ok { result.ok ≡ not (bad_new anEvent signaled manual) }
         ensures object { cells_of result.object
-            ≡ cond (badNew anEvent signaled manual) noFields (newFields anEvent signaled manual) }
+            ≡ cond (bad_new anEvent signaled manual) no_fields (new_fields anEvent signaled manual) }
     {
         let e = Event {
             signaled: flag(signaled),
@@ -240,7 +240,7 @@ impl Object {
 
     // Signaled for the asking owner.
     pub fn signaled(self, asking: u64) -> bool
-        ensures { result ≡ signaledFields asking (cells_of self) }
+        ensures { result ≡ signaled_fields asking (cells_of self) }
     {
         let kind = self.kind;
         if kind == Semaphore::KIND {
@@ -256,15 +256,15 @@ impl Object {
     }
 
     pub fn abandoned(self) -> bool
-        ensures { result ≡ abandonedFields (cells_of self) }
+        ensures { result ≡ abandoned_fields (cells_of self) }
     {
         (self.kind == Mutex::KIND) & (0 < self.attribute)
     }
 
     // Acquired by the asking owner; an object that is not signaled stays within its ranges.
     pub fn acquire(self, asking: u64) -> Acquired
-        ensures next { cells_of result.next ≡ acquiredFields asking (cells_of self) }
-        ensures dead { result.abandoned ≡ abandonedFields (cells_of self) }
+        ensures next { cells_of result.next ≡ acquired_fields asking (cells_of self) }
+        ensures dead { result.abandoned ≡ abandoned_fields (cells_of self) }
     {
         let dead = self.abandoned();
         let next = self.acquired(asking);
@@ -275,7 +275,7 @@ impl Object {
     }
 
     fn acquired(self, asking: u64) -> Object
-        ensures { cells_of result ≡ acquiredFields asking (cells_of self) }
+        ensures { cells_of result ≡ acquired_fields asking (cells_of self) }
     {
         let kind = self.kind;
         let count = self.count;
@@ -316,7 +316,7 @@ impl Object {
 
     // EINVAL for another kind, EOVERFLOW past the maximum, compared as whole numbers.
     pub fn post(self, add: u64) -> Change
-        ensures { changeOf result ≡ postFields add (cells_of self) }
+        ensures { change_of result ≡ post_fields add (cells_of self) }
     {
         let kind = self.kind;
         let count = self.count;
@@ -352,7 +352,7 @@ impl Object {
 
     // 0 where `asking` holds this mutex; EINVAL for another kind or owner 0, EPERM for another owner.
     fn held_by(self, asking: u64) -> u32
-        ensures { result ≡ (ifHeld asking (cells_of self) (cells_of self)).answer }
+        ensures { result ≡ (if_held asking (cells_of self) (cells_of self)).answer }
     {
         let kind = self.kind;
         let owner = self.owner;
@@ -369,7 +369,7 @@ impl Object {
     }
 
     pub fn unlock(self, asking: u64) -> Change
-        ensures { changeOf result ≡ unlockFields asking (cells_of self) }
+        ensures { change_of result ≡ unlock_fields asking (cells_of self) }
     {
         let answer = self.held_by(asking);
         if answer != DONE {
@@ -400,7 +400,7 @@ impl Object {
     }
 
     pub fn kill(self, asking: u64) -> Change
-        ensures { changeOf result ≡ killFields asking (cells_of self) }
+        ensures { change_of result ≡ kill_fields asking (cells_of self) }
     {
         let answer = self.held_by(asking);
         if answer != DONE {
@@ -419,7 +419,7 @@ impl Object {
 
     // An event set (1) or cleared (0); EINVAL for another kind.
     pub fn switch(self, to: u64) -> Change
-        ensures { changeOf result ≡ switchFields to (cells_of self) }
+        ensures { change_of result ≡ switch_fields to (cells_of self) }
     {
         let kind = self.kind;
         if kind != Event::KIND {

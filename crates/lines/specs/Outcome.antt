@@ -1,7 +1,7 @@
 -- One line of a text, as code reads it: a position in the text and a struct by value.
 use Rattle.std.specs.Prelude.{◌≡◌, ℕ, ◌-◌, ◌≤◌, Bool, true, false, cond, ◌&&◌, List, [], ◌∷◌, ◌++◌, length, drop, ◌==◌, nat_le, nat_lt}
 use Rattle.model.specs.Basics.{maybe}
-use Rattle.model.specs.Snapshot.{digitsUpTo}
+use Rattle.model.specs.Snapshot.{digits_up_to}
 use Rattle.model.specs.Reading.{Read, good, bad, Reader, after, leading}
 
 -- the text begins with this front
@@ -19,10 +19,10 @@ figure (b ∷ text) = cond (nat_le 48 b && nat_lt b 58) (b - 48) 10
 abbrev pub end_of : ℕ → List ℕ → List ℕ → Read ℕ
 end_of n u t = maybe (after (10 ∷ []) t) (bad u) (λ rest. good n rest)
 
--- `numberLine` of the meaning, over the bytes of the key
+-- `number_line` of the meaning, over the bytes of the key
 unfoldable pub number_of : List ℕ → ℕ → ℕ → Reader ℕ
 number_of key low high text = let n = leading 0 (drop (length key) text) in
-    cond (nat_le low n && nat_le n high) (maybe (after (key ++ (digitsUpTo 19 n ++ (10 ∷ []))) text) (bad text) (λ rest. good n rest)) (bad text)
+    cond (nat_le low n && nat_le n high) (maybe (after (key ++ (digits_up_to 19 n ++ (10 ∷ []))) text) (bad text) (λ rest. good n rest)) (bad text)
 
 -- which of two lines the text begins with: 0 or 1
 unfoldable pub either_of : List ℕ → List ℕ → Reader ℕ

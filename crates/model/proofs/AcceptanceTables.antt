@@ -1,4 +1,4 @@
--- Readings on tables: what a host sees (`seen`) and is handed (`handed`) of `tableStep` itself, on cells that are written out
+-- Readings on tables: what a host sees (`seen`) and is handed (`handed`) of `table_step` itself, on cells that are written out
 -- here. So `records`, `overwrite`, `least` and `encode` are computed where no other side shares them. That the cells show the
 -- state computed with is a hypothesis here, which the laws prove in TableReadings.antt: `view` finds each of thousands of cells
 -- from the front. So no law stands above this file, and a wrong definition is first refused by a reading.
@@ -8,19 +8,19 @@ use mathlib.Core.List.{List, [], ◌∷◌, ◌++◌, map}
 use Prim.Native.Nat.{ℕ, ◌+◌, ◌-◌, ◌*◌}
 use lib.ListN.{length, get_or, replicate}
 use lib.Dec.{eqb, ltb, leb}
-use Rattle.model.specs.Sizes.{objectPlaces, waitPlaces, maxListed, never, ticketsEnd, wakeLength}
-use Rattle.model.specs.Basics.{any_of, all_of, member, hasRepeat, tabulate, joined}
+use Rattle.model.specs.Sizes.{object_places, wait_places, max_listed, never, tickets_end, wake_length}
+use Rattle.model.specs.Basics.{any_of, all_of, member, has_repeat, tabulate, joined}
 use Rattle.model.specs.Objects.{empty, mutex}
-use Rattle.model.specs.Waits.{any, all, free, waiting, State, objectAt, anyWaiting, lowestSignaled, allSignaled, look, attempt, acquireEach, anyAbandoned, dequeue}
-use Rattle.model.specs.Waits.{oldest, concernedBy, serve, tryToServe, walkQueue}
+use Rattle.model.specs.Waits.{any, all, free, waiting, State, object_at, any_waiting, lowest_signaled, all_signaled, look, attempt, acquire_each, any_abandoned, dequeue}
+use Rattle.model.specs.Waits.{oldest, concerned_by, serve, try_to_serve, walk_queue}
 use Rattle.model.specs.Calls.{aSemaphore, anEvent, setEvent, unlock, create, resetEvent, read, signal, wait, expire, cancel}
-use Rattle.model.specs.Calls.{Call, nothingLent, wakeLent, asks, least, lowestEmpty, allOccupied, waitsFull, enqueue}
-use Rattle.model.specs.Calls.{refusals, admits, endEach, change}
-use Rattle.model.specs.Snapshot.{ascii, digitsUpTo, line, objectText, objectsText, objectCount, waitText}
-use Rattle.model.specs.Snapshot.{queueFrom, snapshotBody, byteSum, snapshotText}
-use Rattle.model.specs.Layout.{objectSize, waitSize, objectCells, waitCells, encode, objectOf, waitOf, view, distinctTickets}
-use Rattle.model.specs.Layout.{validState, validTables}
-use Rattle.model.specs.Steps.{Outcome, unaltered, firstRefusal, records, libraryStep, onTables, tableStep, Seen, sees, seen, hands, handed}
+use Rattle.model.specs.Calls.{Call, nothing_lent, wake_lent, asks, least, lowest_empty, all_occupied, waits_full, enqueue}
+use Rattle.model.specs.Calls.{refusals, admits, end_each, change}
+use Rattle.model.specs.Snapshot.{ascii, digits_up_to, line, object_text, objects_text, object_count, wait_text}
+use Rattle.model.specs.Snapshot.{queue_from, snapshot_body, byte_sum, snapshot_text}
+use Rattle.model.specs.Layout.{object_size, wait_size, object_cells, wait_cells, encode, object_of, wait_of, view, distinct_tickets}
+use Rattle.model.specs.Layout.{valid_state, valid_tables}
+use Rattle.model.specs.Steps.{Outcome, unaltered, first_refusal, records, library_step, on_tables, table_step, Seen, sees, seen, hands, handed}
 
 -- tables as the next ticket and the cells of the first objects and waits; all further places are empty
 pub record Rows : Type 0 where
@@ -37,14 +37,14 @@ padded size [] = []
 padded size (cells ∷ places) = (cells ++ replicate (size - length cells) 0) ++ padded size places
 
 abbrev pub cells : Rows → List ℕ
-cells r = r.next ∷ ((padded objectSize r.objects ++ replicate (objectSize * (objectPlaces - length r.objects)) 0)
-    ++ (padded waitSize r.waits ++ replicate (waitSize * (waitPlaces - length r.waits)) 0))
+cells r = r.next ∷ ((padded object_size r.objects ++ replicate (object_size * (object_places - length r.objects)) 0)
+    ++ (padded wait_size r.waits ++ replicate (wait_size * (wait_places - length r.waits)) 0))
 
 -- the state that each place's cells show by themselves
 abbrev pub state : Rows → State
 state r = record {
-  objects = map (λ cs. objectOf (get_or cs 0 0) (get_or cs 1 0) (get_or cs 2 0) (get_or cs 3 0)) r.objects ++ replicate (objectPlaces - length r.objects) empty;
-  waits = map (λ cs. waitOf (λ j. get_or cs j 0)) r.waits ++ replicate (waitPlaces - length r.waits) free;
+  objects = map (λ cs. object_of (get_or cs 0 0) (get_or cs 1 0) (get_or cs 2 0) (get_or cs 3 0)) r.objects ++ replicate (object_places - length r.objects) empty;
+  waits = map (λ cs. wait_of (λ j. get_or cs j 0)) r.waits ++ replicate (wait_places - length r.waits) free;
   next = r.next;
 }
 
@@ -61,49 +61,49 @@ timed = rows 6 ((3 ∷ 0 ∷ 0 ∷ 0 ∷ []) ∷ []) ((5 ∷ 0 ∷ 8 ∷ 0 ∷ 5
 
 -- a mutex that 5 holds so many times, and an unset auto event; ticket 3 waits for any of the mutex, owner 6, on the real-time
 -- clock, with the event as its alert
-abbrev heldBy5 : ℕ → Rows
-heldBy5 count = rows 4 ((2 ∷ count ∷ 5 ∷ 0 ∷ []) ∷ (3 ∷ []) ∷ []) ((3 ∷ 0 ∷ 6 ∷ 1 ∷ 90 ∷ 1 ∷ 2 ∷ 1 ∷ []) ∷ [])
+abbrev held_by5 : ℕ → Rows
+held_by5 count = rows 4 ((2 ∷ count ∷ 5 ∷ 0 ∷ []) ∷ (3 ∷ []) ∷ []) ((3 ∷ 0 ∷ 6 ∷ 1 ∷ 90 ∷ 1 ∷ 2 ∷ 1 ∷ []) ∷ [])
 
 abbrev held : Rows
-held = heldBy5 3
+held = held_by5 3
 
 -- the same with its wait in the second place
-abbrev inSecondPlace : Rows
-inSecondPlace = rows 4 held.objects ([] ∷ held.waits)
+abbrev in_second_place : Rows
+in_second_place = rows 4 held.objects ([] ∷ held.waits)
 
-abbrev heldText : List ℕ
-heldText = ascii "next=4\nobjects=2\nhandle=1\nkind=mutex\nowner=5\ncount=3\nabandoned=0\nhandle=2\nkind=event\nsignaled=0\nmanual=0\nwaits=1\nwait=3\nmode=any\nowner=6\nclock=real\ntimeout=90\nalert=2\nn=1\nobj=1\nsum=15144\n"
+abbrev held_text : List ℕ
+held_text = ascii "next=4\nobjects=2\nhandle=1\nkind=mutex\nowner=5\ncount=3\nabandoned=0\nhandle=2\nkind=event\nsignaled=0\nmanual=0\nwaits=1\nwait=3\nmode=any\nowner=6\nclock=real\ntimeout=90\nalert=2\nn=1\nobj=1\nsum=15144\n"
 
 -- an unset auto event; ticket 1 waits for no objects until 50, for any (0) or for all (1), owner 7, the event its alert
-abbrev oneEvent : ℕ → List (List ℕ) → Rows
-oneEvent next waits = rows next ((3 ∷ []) ∷ []) waits
+abbrev one_event : ℕ → List (List ℕ) → Rows
+one_event next waits = rows next ((3 ∷ []) ∷ []) waits
 
 abbrev of_none : ℕ → Rows
-of_none mode = oneEvent 2 ((1 ∷ mode ∷ 7 ∷ 0 ∷ 50 ∷ 0 ∷ 1 ∷ []) ∷ [])
+of_none mode = one_event 2 ((1 ∷ mode ∷ 7 ∷ 0 ∷ 50 ∷ 0 ∷ 1 ∷ []) ∷ [])
 
-abbrev ofNoneText : List ℕ
-ofNoneText = ascii "next=2\nobjects=1\nhandle=1\nkind=event\nsignaled=0\nmanual=0\nwaits=1\nwait=1\nmode=any\nowner=7\nclock=mono\ntimeout=50\nalert=1\nn=0\nsum=10526\n"
+abbrev of_none_text : List ℕ
+of_none_text = ascii "next=2\nobjects=1\nhandle=1\nkind=event\nsignaled=0\nmanual=0\nwaits=1\nwait=1\nmode=any\nowner=7\nclock=mono\ntimeout=50\nalert=1\nn=0\nsum=10526\n"
 
 -- every object place an event; tickets spent; a semaphore of 2 of 1; of 0 of a maximum
 abbrev full : Rows
-full = rows 1 (tabulate objectPlaces (λ p. 3 ∷ [])) []
+full = rows 1 (tabulate object_places (λ p. 3 ∷ [])) []
 
 abbrev spent : Rows
-spent = rows ticketsEnd ((3 ∷ []) ∷ []) []
+spent = rows tickets_end ((3 ∷ []) ∷ []) []
 
 abbrev damaged : Rows
 damaged = rows 1 ((1 ∷ 2 ∷ 0 ∷ 1 ∷ []) ∷ []) []
 
-abbrev ofMaximum : ℕ → Rows
-ofMaximum m = rows 1 ((1 ∷ 0 ∷ 0 ∷ m ∷ []) ∷ []) []
+abbrev of_maximum : ℕ → Rows
+of_maximum m = rows 1 ((1 ∷ 0 ∷ 0 ∷ m ∷ []) ∷ []) []
 
 abbrev sevens : ℕ → List ℕ
 sevens n = replicate n 7
 
 -- cells can show the state: it has their number of places, and no wait has ticket 0 or more handles than a list has cells
 abbrev pub fits : State → Bool
-fits s = all_of (eqb (length s.objects) objectPlaces ∷ eqb (length s.waits) waitPlaces
-    ∷ not (anyWaiting (λ w. not (ltb 0 w.ticket && leb (length w.list) maxListed)) s.waits) ∷ [])
+fits s = all_of (eqb (length s.objects) object_places ∷ eqb (length s.waits) wait_places
+    ∷ not (any_waiting (λ w. not (ltb 0 w.ticket && leb (length w.list) max_listed)) s.waits) ∷ [])
 
 -- the cells are those of the state that they show place by place
 abbrev pub Written : Rows → Type 0
@@ -111,82 +111,82 @@ Written r = (cells r ≡ encode (state r)) × (fits (state r) ≡ true)
 
 -- what is taken here, and proved by the laws (TableReadings.antt): such cells are read as that state
 abbrev pub ShownByPlaces : Type 0
-ShownByPlaces = (r : Rows) → Written r → (view (cells r) ≡ state r) × (validTables (cells r) ≡ validState (state r))
+ShownByPlaces = (r : Rows) → Written r → (view (cells r) ≡ state r) × (valid_tables (cells r) ≡ valid_state (state r))
 
 reads : ShownByPlaces → {A : Type 0} (f : Outcome (List ℕ) → A) (r : Rows) (c : Call) {a : A} → Written r
-    → f (cond (validState (state r)) (onTables (libraryStep (state r) c)) (unaltered 9 c.lent (cells r))) ≡ a → f (tableStep (cells r) c) ≡ a
-unfolding tableStep
+    → f (cond (valid_state (state r)) (on_tables (library_step (state r) c)) (unaltered 9 c.lent (cells r))) ≡ a → f (table_step (cells r) c) ≡ a
+unfolding table_step
 reads shown f r c {a} w p = let (v, t) = shown r w in rw (t, v) p
 
 -- `view` itself, of single places: a mutex in the first, a wait in the second
-pub view-readings : (objectAt (view (cells held)).objects 1 ≡ mutex 5 3 false)
-    × (get_or (view (cells inSecondPlace)).waits 1 free ≡ waiting record { ticket = 3; mode = any; owner = 6; clock = 1; timeout = 90; alert = 2; list = 1 ∷ [] })
+pub view_readings : (object_at (view (cells held)).objects 1 ≡ mutex 5 3 false)
+    × (get_or (view (cells in_second_place)).waits 1 free ≡ waiting record { ticket = 3; mode = any; owner = 6; clock = 1; timeout = 90; alert = 2; list = 1 ∷ [] })
 unfolding view tabulate
-view-readings = (refl, refl)
+view_readings = (refl, refl)
 
 abbrev pub TableReadings : Type 0
 TableReadings =
     -- P2
-    (seen (tableStep (cells p1) (asks (signal setEvent 2) (wakeLent (sevens wakeLength))))
-    ≡ sees (0 ∷ 0 ∷ 0 ∷ 1 ∷ []) (wakeLent (1 ∷ 0 ∷ 0 ∷ sevens (wakeLength - 3))) (cells p2))
+    (seen (table_step (cells p1) (asks (signal setEvent 2) (wake_lent (sevens wake_length))))
+    ≡ sees (0 ∷ 0 ∷ 0 ∷ 1 ∷ []) (wake_lent (1 ∷ 0 ∷ 0 ∷ sevens (wake_length - 3))) (cells p2))
     -- the records by ticket, from the front; the rest is unaltered; the front that is handed out, and none after a refusal
-    × (seen (tableStep (cells timed) (asks (expire 0 50) (wakeLent (sevens (wakeLength + 1)))))
-    ≡ sees (0 ∷ 0 ∷ 0 ∷ 2 ∷ []) (wakeLent (3 ∷ 5 ∷ 0 ∷ 5 ∷ 5 ∷ 0 ∷ sevens (wakeLength - 5))) (cells (oneEvent 6 [])))
-    × (handed (tableStep (cells timed) (asks (expire 0 50) (wakeLent (sevens wakeLength))))
-    ≡ hands (0 ∷ 0 ∷ 2 ∷ []) (3 ∷ 5 ∷ 0 ∷ 5 ∷ 5 ∷ 0 ∷ []) (cells (oneEvent 6 [])))
-    × (handed (tableStep (cells timed) (asks (expire 2 50) (wakeLent (sevens wakeLength)))) ≡ hands (1 ∷ 0 ∷ 0 ∷ []) [] (cells timed))
+    × (seen (table_step (cells timed) (asks (expire 0 50) (wake_lent (sevens (wake_length + 1)))))
+    ≡ sees (0 ∷ 0 ∷ 0 ∷ 2 ∷ []) (wake_lent (3 ∷ 5 ∷ 0 ∷ 5 ∷ 5 ∷ 0 ∷ sevens (wake_length - 5))) (cells (one_event 6 [])))
+    × (handed (table_step (cells timed) (asks (expire 0 50) (wake_lent (sevens wake_length))))
+    ≡ hands (0 ∷ 0 ∷ 2 ∷ []) (3 ∷ 5 ∷ 0 ∷ 5 ∷ 5 ∷ 0 ∷ []) (cells (one_event 6 [])))
+    × (handed (table_step (cells timed) (asks (expire 2 50) (wake_lent (sevens wake_length)))) ≡ hands (1 ∷ 0 ∷ 0 ∷ []) [] (cells timed))
     -- one answer each of 7, 8, 9 and 12
-    × (seen (tableStep (cells full) (asks (create aSemaphore 0 1) nothingLent)) ≡ sees (7 ∷ 0 ∷ 0 ∷ 0 ∷ []) nothingLent (cells full))
-    × (seen (tableStep (cells spent) (asks (wait any (1 ∷ []) 7 0 0 0 never 0) nothingLent))
-    ≡ sees (8 ∷ 0 ∷ 0 ∷ 0 ∷ []) nothingLent (cells spent))
-    × (seen (tableStep (cells damaged) (asks (signal setEvent 2) (wakeLent (sevens wakeLength))))
-    ≡ sees (9 ∷ 0 ∷ 0 ∷ 0 ∷ []) (wakeLent (sevens wakeLength)) (cells damaged))
-    × (seen (tableStep (cells timed) (asks (expire 0 50) (wakeLent (sevens (wakeLength - 1)))))
-    ≡ sees (12 ∷ 0 ∷ 0 ∷ 0 ∷ []) (wakeLent (sevens (wakeLength - 1))) (cells timed))
+    × (seen (table_step (cells full) (asks (create aSemaphore 0 1) nothing_lent)) ≡ sees (7 ∷ 0 ∷ 0 ∷ 0 ∷ []) nothing_lent (cells full))
+    × (seen (table_step (cells spent) (asks (wait any (1 ∷ []) 7 0 0 0 never 0) nothing_lent))
+    ≡ sees (8 ∷ 0 ∷ 0 ∷ 0 ∷ []) nothing_lent (cells spent))
+    × (seen (table_step (cells damaged) (asks (signal setEvent 2) (wake_lent (sevens wake_length))))
+    ≡ sees (9 ∷ 0 ∷ 0 ∷ 0 ∷ []) (wake_lent (sevens wake_length)) (cells damaged))
+    × (seen (table_step (cells timed) (asks (expire 0 50) (wake_lent (sevens (wake_length - 1)))))
+    ≡ sees (12 ∷ 0 ∷ 0 ∷ 0 ∷ []) (wake_lent (sevens (wake_length - 1))) (cells timed))
     -- an unlock above zero, a reset, flags above 1
-    × (seen (tableStep (cells held) (asks (signal (unlock 5) 1) (wakeLent (sevens wakeLength))))
-    ≡ sees (0 ∷ 3 ∷ 0 ∷ 0 ∷ []) (wakeLent (sevens wakeLength)) (cells (heldBy5 2)))
-    × (seen (tableStep (cells p2) (asks (resetEvent 2) nothingLent))
-    ≡ sees (0 ∷ 1 ∷ 0 ∷ 0 ∷ []) nothingLent (cells (rows 2 ((1 ∷ 0 ∷ 0 ∷ 2 ∷ []) ∷ (3 ∷ 0 ∷ 0 ∷ 1 ∷ []) ∷ []) [])))
-    × (seen (tableStep (cells p2) (asks (create anEvent 2 5) nothingLent))
-    ≡ sees (0 ∷ 3 ∷ 0 ∷ 0 ∷ []) nothingLent
+    × (seen (table_step (cells held) (asks (signal (unlock 5) 1) (wake_lent (sevens wake_length))))
+    ≡ sees (0 ∷ 3 ∷ 0 ∷ 0 ∷ []) (wake_lent (sevens wake_length)) (cells (held_by5 2)))
+    × (seen (table_step (cells p2) (asks (resetEvent 2) nothing_lent))
+    ≡ sees (0 ∷ 1 ∷ 0 ∷ 0 ∷ []) nothing_lent (cells (rows 2 ((1 ∷ 0 ∷ 0 ∷ 2 ∷ []) ∷ (3 ∷ 0 ∷ 0 ∷ 1 ∷ []) ∷ []) [])))
+    × (seen (table_step (cells p2) (asks (create anEvent 2 5) nothing_lent))
+    ≡ sees (0 ∷ 3 ∷ 0 ∷ 0 ∷ []) nothing_lent
     (cells (rows 2 ((1 ∷ 0 ∷ 0 ∷ 2 ∷ []) ∷ (3 ∷ 1 ∷ 0 ∷ 1 ∷ []) ∷ (3 ∷ 1 ∷ 0 ∷ 1 ∷ []) ∷ []) [])))
     -- 1/13, no objects: queued; woken by the alert, which is cleared; due; cancelled; for all refused, and damage in tables
-    × (seen (tableStep (cells (oneEvent 1 [])) (asks (wait any [] 7 0 0 1 50 0) nothingLent))
-    ≡ sees (11 ∷ 0 ∷ 1 ∷ 0 ∷ []) nothingLent (cells (of_none 0)))
-    × (seen (tableStep (cells (of_none 0)) (asks (signal setEvent 1) (wakeLent (sevens wakeLength))))
-    ≡ sees (0 ∷ 0 ∷ 0 ∷ 1 ∷ []) (wakeLent (1 ∷ 0 ∷ 0 ∷ sevens (wakeLength - 3))) (cells (oneEvent 2 [])))
-    × (seen (tableStep (cells (of_none 0)) (asks (expire 0 50) (wakeLent (sevens wakeLength))))
-    ≡ sees (0 ∷ 0 ∷ 0 ∷ 1 ∷ []) (wakeLent (1 ∷ 5 ∷ 0 ∷ sevens (wakeLength - 3))) (cells (oneEvent 2 [])))
-    × (seen (tableStep (cells (of_none 0)) (asks (cancel 1) nothingLent)) ≡ sees (6 ∷ 0 ∷ 0 ∷ 0 ∷ []) nothingLent (cells (oneEvent 2 [])))
-    × (seen (tableStep (cells (oneEvent 1 [])) (asks (wait all [] 7 0 0 1 50 0) nothingLent))
-    ≡ sees (1 ∷ 0 ∷ 0 ∷ 0 ∷ []) nothingLent (cells (oneEvent 1 [])))
-    × (seen (tableStep (cells (of_none 1)) (asks (cancel 1) nothingLent)) ≡ sees (9 ∷ 0 ∷ 0 ∷ 0 ∷ []) nothingLent (cells (of_none 1)))
+    × (seen (table_step (cells (one_event 1 [])) (asks (wait any [] 7 0 0 1 50 0) nothing_lent))
+    ≡ sees (11 ∷ 0 ∷ 1 ∷ 0 ∷ []) nothing_lent (cells (of_none 0)))
+    × (seen (table_step (cells (of_none 0)) (asks (signal setEvent 1) (wake_lent (sevens wake_length))))
+    ≡ sees (0 ∷ 0 ∷ 0 ∷ 1 ∷ []) (wake_lent (1 ∷ 0 ∷ 0 ∷ sevens (wake_length - 3))) (cells (one_event 2 [])))
+    × (seen (table_step (cells (of_none 0)) (asks (expire 0 50) (wake_lent (sevens wake_length))))
+    ≡ sees (0 ∷ 0 ∷ 0 ∷ 1 ∷ []) (wake_lent (1 ∷ 5 ∷ 0 ∷ sevens (wake_length - 3))) (cells (one_event 2 [])))
+    × (seen (table_step (cells (of_none 0)) (asks (cancel 1) nothing_lent)) ≡ sees (6 ∷ 0 ∷ 0 ∷ 0 ∷ []) nothing_lent (cells (one_event 2 [])))
+    × (seen (table_step (cells (one_event 1 [])) (asks (wait all [] 7 0 0 1 50 0) nothing_lent))
+    ≡ sees (1 ∷ 0 ∷ 0 ∷ 0 ∷ []) nothing_lent (cells (one_event 1 [])))
+    × (seen (table_step (cells (of_none 1)) (asks (cancel 1) nothing_lent)) ≡ sees (9 ∷ 0 ∷ 0 ∷ 0 ∷ []) nothing_lent (cells (of_none 1)))
     -- 4/13: a maximum of 0 is damage, one of 1 is not; it is refused with 1 also where every place is in use, before 7
-    × (seen (tableStep (cells (ofMaximum 0)) (asks (read aSemaphore 1) nothingLent))
-    ≡ sees (9 ∷ 0 ∷ 0 ∷ 0 ∷ []) nothingLent (cells (ofMaximum 0)))
-    × (seen (tableStep (cells (ofMaximum 1)) (asks (read aSemaphore 1) nothingLent))
-    ≡ sees (0 ∷ 0 ∷ 1 ∷ 0 ∷ []) nothingLent (cells (ofMaximum 1)))
-    × (seen (tableStep (cells full) (asks (create aSemaphore 0 0) nothingLent)) ≡ sees (1 ∷ 0 ∷ 0 ∷ 0 ∷ []) nothingLent (cells full))
+    × (seen (table_step (cells (of_maximum 0)) (asks (read aSemaphore 1) nothing_lent))
+    ≡ sees (9 ∷ 0 ∷ 0 ∷ 0 ∷ []) nothing_lent (cells (of_maximum 0)))
+    × (seen (table_step (cells (of_maximum 1)) (asks (read aSemaphore 1) nothing_lent))
+    ≡ sees (0 ∷ 0 ∷ 1 ∷ 0 ∷ []) nothing_lent (cells (of_maximum 1)))
+    × (seen (table_step (cells full) (asks (create aSemaphore 0 0) nothing_lent)) ≡ sees (1 ∷ 0 ∷ 0 ∷ 0 ∷ []) nothing_lent (cells full))
     -- 5/13: of 512 events the last is waited for, in a list and as an alert; 513 is no handle
-    × (seen (tableStep (cells full) (asks (wait any (512 ∷ []) 7 0 0 512 never 0) nothingLent))
-    ≡ sees (11 ∷ 0 ∷ 1 ∷ 0 ∷ []) nothingLent (cells (rows 2 full.objects ((1 ∷ 0 ∷ 7 ∷ 0 ∷ never ∷ 1 ∷ 512 ∷ 512 ∷ []) ∷ []))))
-    × (seen (tableStep (cells full) (asks (wait any (512 ∷ 513 ∷ []) 7 0 0 0 never 0) nothingLent))
-    ≡ sees (1 ∷ 0 ∷ 0 ∷ 0 ∷ []) nothingLent (cells full))
+    × (seen (table_step (cells full) (asks (wait any (512 ∷ []) 7 0 0 512 never 0) nothing_lent))
+    ≡ sees (11 ∷ 0 ∷ 1 ∷ 0 ∷ []) nothing_lent (cells (rows 2 full.objects ((1 ∷ 0 ∷ 7 ∷ 0 ∷ never ∷ 1 ∷ 512 ∷ 512 ∷ []) ∷ []))))
+    × (seen (table_step (cells full) (asks (wait any (512 ∷ 513 ∷ []) 7 0 0 0 never 0) nothing_lent))
+    ≡ sees (1 ∷ 0 ∷ 0 ∷ 0 ∷ []) nothing_lent (cells full))
 
 -- of tables that are read more than once
 written : Written full
     × Written timed
     × Written p2
     × Written held
-    × Written (oneEvent 1 [])
+    × Written (one_event 1 [])
     × Written (of_none 0)
-unfolding encode tabulate joined objectCells waitCells all_of oldest
+unfolding encode tabulate joined object_cells wait_cells all_of oldest
 written = ((refl, refl), (refl, refl), (refl, refl), (refl, refl), (refl, refl), (refl, refl))
 
-pub readings-by-places : ShownByPlaces → TableReadings
-unfolding encode tabulate joined objectCells waitCells all_of oldest distinctTickets lowestSignaled allSignaled look attempt acquireEach anyAbandoned dequeue serve tryToServe member concernedBy walkQueue libraryStep firstRefusal records refusals change least lowestEmpty waitsFull enqueue allOccupied hasRepeat any_of admits endEach
-readings-by-places shown = (
+pub readings_by_places : ShownByPlaces → TableReadings
+unfolding encode tabulate joined object_cells wait_cells all_of oldest distinct_tickets lowest_signaled all_signaled look attempt acquire_each any_abandoned dequeue serve try_to_serve member concerned_by walk_queue library_step first_refusal records refusals change least lowest_empty waits_full enqueue all_occupied has_repeat any_of admits end_each
+readings_by_places shown = (
   reads shown seen p1 _ (refl, refl) refl,
   reads shown seen timed _ written.1 refl,
   reads shown handed timed _ written.1 refl,
@@ -198,14 +198,14 @@ readings-by-places shown = (
   reads shown seen held _ written.3 refl,
   reads shown seen p2 _ written.2 refl,
   reads shown seen p2 _ written.2 refl,
-  reads shown seen (oneEvent 1 []) _ written.4 refl,
+  reads shown seen (one_event 1 []) _ written.4 refl,
   reads shown seen (of_none 0) _ written.5 refl,
   reads shown seen (of_none 0) _ written.5 refl,
   reads shown seen (of_none 0) _ written.5 refl,
-  reads shown seen (oneEvent 1 []) _ written.4 refl,
+  reads shown seen (one_event 1 []) _ written.4 refl,
   reads shown seen (of_none 1) _ (refl, refl) refl,
-  reads shown seen (ofMaximum 0) _ (refl, refl) refl,
-  reads shown seen (ofMaximum 1) _ (refl, refl) refl,
+  reads shown seen (of_maximum 0) _ (refl, refl) refl,
+  reads shown seen (of_maximum 1) _ (refl, refl) refl,
   reads shown seen full _ written.0 refl,
   reads shown seen full _ written.0 refl,
   reads shown seen full _ written.0 refl,
@@ -213,8 +213,8 @@ readings-by-places shown = (
 
 -- a text with a mutex, mode any and the real-time clock, of the state that the tables show; one of a wait without obj lines
 abbrev pub TextReading : Type 0
-TextReading = (snapshotText (view (cells held)) ≡ heldText) × (snapshotText (view (cells (of_none 0))) ≡ ofNoneText)
+TextReading = (snapshot_text (view (cells held)) ≡ held_text) × (snapshot_text (view (cells (of_none 0))) ≡ of_none_text)
 
-pub text-by-places : ShownByPlaces → TextReading
-unfolding encode tabulate joined objectCells waitCells all_of oldest snapshotBody byteSum snapshotText objectText objectsText objectCount waitText queueFrom line digitsUpTo
-text-by-places shown = (ap snapshotText (shown held written.3).0, ap snapshotText (shown (of_none 0) written.5).0)
+pub text_by_places : ShownByPlaces → TextReading
+unfolding encode tabulate joined object_cells wait_cells all_of oldest snapshot_body byte_sum snapshot_text object_text objects_text object_count wait_text queue_from line digits_up_to
+text_by_places shown = (ap snapshot_text (shown held written.3).0, ap snapshot_text (shown (of_none 0) written.5).0)

@@ -7,76 +7,76 @@ use native.Mathlib.Omega.{arith}
 use lib.ListN.{length, length-append}
 use lib.Dec.{T, ltb, leb, lit≤}
 use Rattle.model.specs.Basics.{bit, joined}
-use Rattle.model.specs.Snapshot.{ascii, digitsUpTo, line, objectText, objectsText, modeText, clockText, waitText, snapshotBody, byteSum}
+use Rattle.model.specs.Snapshot.{ascii, digits_up_to, line, object_text, objects_text, mode_text, clock_text, wait_text, snapshot_body, byte_sum}
 use Rattle.model.specs.Objects.{Object, empty, semaphore, mutex, event}
 use Rattle.model.specs.Waits.{Mode, any, all, Wait, State}
-use Rattle.model.proofs.Logic.{byBool}
+use Rattle.model.proofs.Logic.{by_bool}
 
 pub record Light (x : List ℕ) : Type 0 where
-  pub light : byteSum x ≤ 122 * length x
+  pub light : byte_sum x ≤ 122 * length x
 
-pub sum-append : (x y : List ℕ) → byteSum (x ++ y) ≡ byteSum x + byteSum y
-unfolding byteSum
-sum-append [] y = omega arith
-sum-append (b ∷ x) y = let h = sum-append x y in omega arith
+pub sum_append : (x y : List ℕ) → byte_sum (x ++ y) ≡ byte_sum x + byte_sum y
+unfolding byte_sum
+sum_append [] y = omega arith
+sum_append (b ∷ x) y = let h = sum_append x y in omega arith
 
-then-light : {x y : List ℕ} → Light x → Light y → Light (x ++ y)
-then-light {x} {y} p q = let a = sum-append x y in let l = length-append x y in let u = p.light in let v = q.light in record { light = omega arith }
+then_light : {x y : List ℕ} → Light x → Light y → Light (x ++ y)
+then_light {x} {y} p q = let a = sum_append x y in let l = length-append x y in let u = p.light in let v = q.light in record { light = omega arith }
 
-digit-light : (n : ℕ) → Light ((48 + n % 10) ∷ [])
-unfolding byteSum
-digit-light n = record { light = omega arith }
+digit_light : (n : ℕ) → Light ((48 + n % 10) ∷ [])
+unfolding byte_sum
+digit_light n = record { light = omega arith }
 
-nil-light : Light []
-unfolding byteSum
-nil-light = record { light = lit≤ tt }
+nil_light : Light []
+unfolding byte_sum
+nil_light = record { light = lit≤ tt }
 
-digits-light : (k n : ℕ) → Light (digitsUpTo k n)
-unfolding digitsUpTo
-digits-light zero n = digit-light n
-digits-light (suc k) n = byBool (ltb n 10) (λ t. rw t (digit-light n)) (λ f. rw f (then-light (digits-light k (n / 10)) (digit-light n)))
+digits_light : (k n : ℕ) → Light (digits_up_to k n)
+unfolding digits_up_to
+digits_light zero n = digit_light n
+digits_light (suc k) n = by_bool (ltb n 10) (λ t. rw t (digit_light n)) (λ f. rw f (then_light (digits_light k (n / 10)) (digit_light n)))
 
-words-light : (key : String) → T (leb (byteSum (ascii key)) (122 * length (ascii key))) → Light (ascii key)
-words-light key t = record { light = lit≤ t }
+words_light : (key : String) → T (leb (byte_sum (ascii key)) (122 * length (ascii key))) → Light (ascii key)
+words_light key t = record { light = lit≤ t }
 
-line-light : (key : String) (n : ℕ) → T (leb (byteSum (ascii key)) (122 * length (ascii key))) → Light (line key n)
-unfolding line byteSum
-line-light key n h = then-light (words-light key h) (then-light (digits-light 19 n) (record { light = lit≤ tt }))
+line_light : (key : String) (n : ℕ) → T (leb (byte_sum (ascii key)) (122 * length (ascii key))) → Light (line key n)
+unfolding line byte_sum
+line_light key n h = then_light (words_light key h) (then_light (digits_light 19 n) (record { light = lit≤ tt }))
 
-object-light : (h : ℕ) (x : Object) → Light (objectText h x)
-unfolding objectText byteSum
-object-light h empty = nil-light
-object-light h (semaphore c m) = then-light (line-light "handle=" h tt) (then-light (words-light "kind=sem\n" tt) (then-light (line-light "count=" c tt) (line-light "max=" m tt)))
-object-light h (mutex o c a) = then-light (line-light "handle=" h tt) (then-light (words-light "kind=mutex\n" tt) (then-light (line-light "owner=" o tt) (then-light (line-light "count=" c tt) (line-light "abandoned=" (bit a) tt))))
-object-light h (event s m) = then-light (line-light "handle=" h tt) (then-light (words-light "kind=event\n" tt) (then-light (line-light "signaled=" (bit s) tt) (line-light "manual=" (bit m) tt)))
+object_light : (h : ℕ) (x : Object) → Light (object_text h x)
+unfolding object_text byte_sum
+object_light h empty = nil_light
+object_light h (semaphore c m) = then_light (line_light "handle=" h tt) (then_light (words_light "kind=sem\n" tt) (then_light (line_light "count=" c tt) (line_light "max=" m tt)))
+object_light h (mutex o c a) = then_light (line_light "handle=" h tt) (then_light (words_light "kind=mutex\n" tt) (then_light (line_light "owner=" o tt) (then_light (line_light "count=" c tt) (line_light "abandoned=" (bit a) tt))))
+object_light h (event s m) = then_light (line_light "handle=" h tt) (then_light (words_light "kind=event\n" tt) (then_light (line_light "signaled=" (bit s) tt) (line_light "manual=" (bit m) tt)))
 
-objects-light : (h : ℕ) (xs : List Object) → Light (objectsText h xs)
-unfolding objectsText
-objects-light h [] = nil-light
-objects-light h (x ∷ xs) = then-light (object-light h x) (objects-light (suc h) xs)
+objects_light : (h : ℕ) (xs : List Object) → Light (objects_text h xs)
+unfolding objects_text
+objects_light h [] = nil_light
+objects_light h (x ∷ xs) = then_light (object_light h x) (objects_light (suc h) xs)
 
-mode-light : (m : Mode) → Light (modeText m)
-unfolding byteSum
-mode-light any = record { light = lit≤ tt }
-mode-light all = record { light = lit≤ tt }
+mode_light : (m : Mode) → Light (mode_text m)
+unfolding byte_sum
+mode_light any = record { light = lit≤ tt }
+mode_light all = record { light = lit≤ tt }
 
-clock-light : (c : ℕ) → Light (clockText c)
-unfolding byteSum
-clock-light zero = record { light = lit≤ tt }
-clock-light (suc c) = record { light = lit≤ tt }
+clock_light : (c : ℕ) → Light (clock_text c)
+unfolding byte_sum
+clock_light zero = record { light = lit≤ tt }
+clock_light (suc c) = record { light = lit≤ tt }
 
 each_light : {A : Type 0} (f : A → List ℕ) → ((a : A) → Light (f a)) → (l : List A) → Light (joined f l)
 unfolding joined
-each_light f h [] = nil-light
-each_light f h (a ∷ l) = then-light (h a) (each_light f h l)
+each_light f h [] = nil_light
+each_light f h (a ∷ l) = then_light (h a) (each_light f h l)
 
-wait-light : (w : Wait) → Light (waitText w)
-unfolding waitText byteSum
-wait-light w = then-light (line-light "wait=" w.ticket tt) (then-light (mode-light w.mode) (then-light (line-light "owner=" w.owner tt)
-    (then-light (clock-light w.clock) (then-light (line-light "timeout=" w.timeout tt) (then-light (line-light "alert=" w.alert tt)
-    (then-light (line-light "n=" (length w.list) tt) (each_light (line "obj=") (λ h. line-light "obj=" h tt) w.list)))))))
+wait_light : (w : Wait) → Light (wait_text w)
+unfolding wait_text byte_sum
+wait_light w = then_light (line_light "wait=" w.ticket tt) (then_light (mode_light w.mode) (then_light (line_light "owner=" w.owner tt)
+    (then_light (clock_light w.clock) (then_light (line_light "timeout=" w.timeout tt) (then_light (line_light "alert=" w.alert tt)
+    (then_light (line_light "n=" (length w.list) tt) (each_light (line "obj=") (λ h. line_light "obj=" h tt) w.list)))))))
 
-pub body-light : (s : State) → Light (snapshotBody s)
-unfolding snapshotBody byteSum
-body-light s = then-light (line-light "next=" s.next tt) (then-light (line-light "objects=" _ tt) (then-light (objects-light 1 s.objects)
-    (then-light (line-light "waits=" _ tt) (each_light waitText wait-light _))))
+pub body_light : (s : State) → Light (snapshot_body s)
+unfolding snapshot_body byte_sum
+body_light s = then_light (line_light "next=" s.next tt) (then_light (line_light "objects=" _ tt) (then_light (objects_light 1 s.objects)
+    (then_light (line_light "waits=" _ tt) (each_light wait_text wait_light _))))

@@ -47,9 +47,9 @@ unfoldable pub member : ℕ → List ℕ → Bool
 member h [] = false
 member h (k ∷ ks) = eqb h k || member h ks
 
-unfoldable pub hasRepeat : List ℕ → Bool
-hasRepeat [] = false
-hasRepeat (h ∷ hs) = member h hs || hasRepeat hs
+unfoldable pub has_repeat : List ℕ → Bool
+has_repeat [] = false
+has_repeat (h ∷ hs) = member h hs || has_repeat hs
 
 -- f 0, f 1, .. f (n - 1)
 unfoldable pub tabulate {ℓ} : {A : Type ℓ} → ℕ → (ℕ → A) → List A

@@ -2,16 +2,16 @@
 use Rattle.std.specs.Prelude.{◌≡◌, Bool, true, false, not, ◌||◌, cond, List, [], ◌∷◌, ◌⊎◌, ℕ, ◌≤◌, ◌<◌, length, get_or, eqb}
 use Rattle.std.proofs.Math.Option.{some}
 use Rattle.model.specs.Basics.{member, number, done, ownerDead, timedOut}
-use Rattle.model.specs.Objects.{Object, by_kind, occupied, isEvent, acquired}
-use Rattle.model.specs.Waits.{Mode, any, all, Wait, WaitPlace, free, waiting, State, objectAt, Grant, attempt}
-use Rattle.model.specs.Waits.{servable, acquireEach, servedAnswer, Report}
+use Rattle.model.specs.Objects.{Object, by_kind, occupied, is_event, acquired}
+use Rattle.model.specs.Waits.{Mode, any, all, Wait, WaitPlace, free, waiting, State, object_at, Grant, attempt}
+use Rattle.model.specs.Waits.{servable, acquire_each, served_answer, Report}
 use Rattle.model.specs.Calls.{Operation, create, close, resetEvent, read, signal, wait, expire, cancel, snapshot}
 use Rattle.model.specs.Calls.{Kind, aSemaphore, aMutex, anEvent, Signal, post, unlock, kill, setEvent, pulseEvent}
-use Rattle.model.specs.Calls.{Call, least, Refusal, allOccupied, newWait}
+use Rattle.model.specs.Calls.{Call, least, Refusal, all_occupied, new_wait}
 
 -- "Refusals are 1, 2, 3, 7, 8, 9, 10 and 12."
-abbrev pub refusalNumbers : List ℕ
-refusalNumbers = 1 ∷ 2 ∷ 3 ∷ 7 ∷ 8 ∷ 9 ∷ 10 ∷ 12 ∷ []
+abbrev pub refusal_numbers : List ℕ
+refusal_numbers = 1 ∷ 2 ∷ 3 ∷ 7 ∷ 8 ∷ 9 ∷ 10 ∷ 12 ∷ []
 
 -- of the conditions, in order, the first that holds has number n
 abbrev pub FirstIs : ℕ → List Refusal → Type 0
@@ -24,29 +24,29 @@ LongEnough c = let n = least c.operation in (n.0 ≤ length c.lent.wake) × (n.1
 
 -- "Wrong kind or empty or unknown handle: EINVAL everywhere." The call names an object that is not there, or not of the
 -- kind that it is for.
-abbrev pub ofKind : Kind → Object → Bool
-ofKind aSemaphore x = by_kind x false (λ c m. true) (λ o c a. false) (λ s m. false)
-ofKind aMutex x = by_kind x false (λ c m. false) (λ o c a. true) (λ s m. false)
-ofKind anEvent x = isEvent x
+abbrev pub of_kind : Kind → Object → Bool
+of_kind aSemaphore x = by_kind x false (λ c m. true) (λ o c a. false) (λ s m. false)
+of_kind aMutex x = by_kind x false (λ c m. false) (λ o c a. true) (λ s m. false)
+of_kind anEvent x = is_event x
 
-abbrev pub kindFor : Signal → Kind
-kindFor (post add) = aSemaphore
-kindFor (unlock o) = aMutex
-kindFor (kill o) = aMutex
-kindFor setEvent = anEvent
-kindFor pulseEvent = anEvent
+abbrev pub kind_for : Signal → Kind
+kind_for (post add) = aSemaphore
+kind_for (unlock o) = aMutex
+kind_for (kill o) = aMutex
+kind_for setEvent = anEvent
+kind_for pulseEvent = anEvent
 
-abbrev pub wrongObject : Operation → List Object → Bool
-wrongObject (create k x y) os = false
-wrongObject (close h) os = not (occupied (objectAt os h))
-wrongObject (resetEvent h) os = not (isEvent (objectAt os h))
-wrongObject (read k h) os = not (ofKind k (objectAt os h))
-wrongObject (signal how h) os = not (ofKind (kindFor how) (objectAt os h))
-wrongObject (wait mode hs o f p a timeout time) os =
-    not (allOccupied os hs) || not (eqb a 0 || isEvent (objectAt os a))
-wrongObject (expire c t) os = false
-wrongObject (cancel t) os = false
-wrongObject snapshot os = false
+abbrev pub wrong_object : Operation → List Object → Bool
+wrong_object (create k x y) os = false
+wrong_object (close h) os = not (occupied (object_at os h))
+wrong_object (resetEvent h) os = not (is_event (object_at os h))
+wrong_object (read k h) os = not (of_kind k (object_at os h))
+wrong_object (signal how h) os = not (of_kind (kind_for how) (object_at os h))
+wrong_object (wait mode hs o f p a timeout time) os =
+    not (all_occupied os hs) || not (eqb a 0 || is_event (object_at os a))
+wrong_object (expire c t) os = false
+wrong_object (cancel t) os = false
+wrong_object snapshot os = false
 
 -- a wait stands in the queue
 infix 40 ◌isIn◌
@@ -60,12 +60,12 @@ abbrev pub Quiet : State → Type 0
 Quiet s = (w : Wait) → w isIn s.waits → servable s.objects w ≡ false
 
 -- WHAT A CALL TOUCHES. The handles of the objects that a served wait took, read from its list and its answer's index
-abbrev pub takenListed : Mode → List ℕ → ℕ → List ℕ
-takenListed any hs i = get_or hs i 0 ∷ []
-takenListed all hs i = hs
+abbrev pub taken_listed : Mode → List ℕ → ℕ → List ℕ
+taken_listed any hs i = get_or hs i 0 ∷ []
+taken_listed all hs i = hs
 
-abbrev pub takenBy : Wait → ℕ → List ℕ
-takenBy w i = cond (eqb i (length w.list)) (w.alert ∷ []) (takenListed w.mode w.list i)
+abbrev pub taken_by : Wait → ℕ → List ℕ
+taken_by w i = cond (eqb i (length w.list)) (w.alert ∷ []) (taken_listed w.mode w.list i)
 
 -- the handles of the objects that a call makes, names or takes at once, given its answer and first number
 abbrev pub touched : Operation → ℕ → ℕ → List ℕ
@@ -75,7 +75,7 @@ touched (resetEvent h) a n = h ∷ []
 touched (read k h) a n = []
 touched (signal how h) a n = h ∷ []
 touched (wait mode hs o f p al timeout time) a i =
-    cond (eqb a 0 || eqb a 4) (takenBy (newWait mode hs o f al timeout 0) i) []
+    cond (eqb a 0 || eqb a 4) (taken_by (new_wait mode hs o f al timeout 0) i) []
 touched (expire c t) a n = []
 touched (cancel t) a n = []
 touched snapshot a n = []
@@ -88,8 +88,8 @@ Rising last (r ∷ rs) = (last < r.ticket) × Rising r.ticket rs
 -- a report of wait w, with the objects before and after: served, by an attempt that succeeded on the objects before and
 -- whose grant it took; or ended by time, and nothing taken
 abbrev pub Served : Wait → Report → List Object → List Object → Type 0
-Served w r os next = (g : Grant) × (attempt os w ≡ some g) × (r.answer ≡ servedAnswer os g) × (r.index ≡ g.index)
-    × (next ≡ acquireEach w.owner os g.handles)
+Served w r os next = (g : Grant) × (attempt os w ≡ some g) × (r.answer ≡ served_answer os g) × (r.index ≡ g.index)
+    × (next ≡ acquire_each w.owner os g.handles)
 
 abbrev pub Ended : Wait → Report → List Object → List Object → Type 0
 Ended w r os next = (r.answer ≡ number timedOut) × (r.index ≡ 0) × (next ≡ os)
@@ -104,7 +104,7 @@ OneByOne P ws (r ∷ rs) os end = (w : Wait) × (w isIn ws) × (w.ticket ≡ r.t
 -- ALL OR NONE. The objects of these handles are the acquired ones, and no other object changed.
 abbrev pub Took : ℕ → List ℕ → List Object → List Object → Type 0
 Took asking hs os next = (h : ℕ)
-    → objectAt next h ≡ cond (member h hs) (acquired asking (objectAt os h)) (objectAt os h)
+    → object_at next h ≡ cond (member h hs) (acquired asking (object_at os h)) (object_at os h)
 
 abbrev pub ServedNumber : ℕ → Type 0
 ServedNumber a = (a ≡ number done) ⊎ (a ≡ number ownerDead)

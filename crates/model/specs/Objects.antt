@@ -1,6 +1,6 @@
 -- Objects: the three kinds, when one is signaled, and what acquiring makes of it (document 01, "Calls").
 use Rattle.std.specs.Prelude.{Bool, true, false, ◌&&◌, ◌||◌, ℕ, suc, pred, eqb, ltb}
-use Rattle.model.specs.Sizes.{mutexCeiling}
+use Rattle.model.specs.Sizes.{mutex_ceiling}
 
 -- "the object places, each empty or with a kind and its values"
 pub data Object : Type 0 where
@@ -19,8 +19,8 @@ by_kind (event s m) none sem mut evt = evt s m
 abbrev pub occupied : Object → Bool
 occupied x = by_kind x false (λ c m. true) (λ o c a. true) (λ s m. true)
 
-abbrev pub isEvent : Object → Bool
-isEvent x = by_kind x false (λ c m. false) (λ o c a. false) (λ s m. true)
+abbrev pub is_event : Object → Bool
+is_event x = by_kind x false (λ c m. false) (λ o c a. false) (λ s m. true)
 
 abbrev pub abandoned : Object → Bool
 abandoned x = by_kind x false (λ c m. false) (λ o c a. a) (λ s m. false)
@@ -30,13 +30,13 @@ abandoned x = by_kind x false (λ c m. false) (λ o c a. a) (λ s m. false)
 abbrev pub signaled : ℕ → Object → Bool
 signaled asking empty = false
 signaled asking (semaphore c m) = ltb 0 c
-signaled asking (mutex o c a) = (eqb o 0 || eqb o asking) && ltb c mutexCeiling
+signaled asking (mutex o c a) = (eqb o 0 || eqb o asking) && ltb c mutex_ceiling
 signaled asking (event s m) = s
 
 -- 4/13, "Semaphores that can never be signaled", by their maximum. "Creating with maximum 0 is EINVAL from now on
 -- (house), and tables holding such a semaphore are damaged."
-abbrev pub neverSignaled : (max : ℕ) → Bool
-neverSignaled m = eqb m 0
+abbrev pub never_signaled : (max : ℕ) → Bool
+never_signaled m = eqb m 0
 
 -- "Acquiring: a semaphore loses one; a mutex gains one and takes the owner, and is no longer abandoned; an auto-reset
 -- event clears; a manual-reset event stays. Acquiring hands back the object's next state" (this) "and whether it had

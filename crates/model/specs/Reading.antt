@@ -3,7 +3,7 @@
 use Rattle.std.specs.Prelude.{Bool, not, ◌&&◌, cond, List, [], ◌∷◌, ℕ, zero, suc, ◌+◌, ◌-◌, ◌*◌, length, drop, eqb, ltb, leb}
 use Rattle.std.proofs.Math.Option.{Option, none, some}
 use Prim.Native.String.{String}
-use Rattle.model.specs.Sizes.{objectPlaces, waitPlaces, maxListed, word32, never}
+use Rattle.model.specs.Sizes.{object_places, wait_places, max_listed, word32, never}
 use Rattle.model.specs.Basics.{maybe}
 use Rattle.model.specs.Objects.{Object, semaphore, mutex, event}
 use Rattle.model.specs.Waits.{any, all, Wait}
@@ -18,14 +18,14 @@ pub data Read (A : Type 0) : Type 0 where
 abbrev pub Reader : Type 0 → Type 0
 Reader A = List ℕ → Read A
 
-abbrev pub byRead {ℓ} : {A : Type 0} {B : Type ℓ} → Read A → (List ℕ → B) → (A → List ℕ → B) → B
-byRead (good a rest) b g = g a rest
-byRead (bad from) b g = b from
+abbrev pub by_read {ℓ} : {A : Type 0} {B : Type ℓ} → Read A → (List ℕ → B) → (A → List ℕ → B) → B
+by_read (good a rest) b g = g a rest
+by_read (bad from) b g = b from
 
 -- one reading after another; no line; as many as counted
 infixl 10 ◌>>=◌
 unfoldable pub ◌>>=◌ : {A B : Type 0} → Reader A → (A → Reader B) → Reader B
-◌>>=◌ m f text = byRead (m text) (λ from. bad from) (λ a rest. f a rest)
+◌>>=◌ m f text = by_read (m text) (λ from. bad from) (λ a rest. f a rest)
 
 unfoldable pub give : {A : Type 0} → A → Reader A
 give a text = good a text
@@ -50,8 +50,8 @@ leading n (b ∷ text) = let r = leading (10 * n + (b - 48)) text in cond (leb 4
 
 -- "the key due there, a plain number .. in that key's range, and its line feed": from low to high, and the line is the
 -- one that the writer writes of that number.
-unfoldable pub numberLine : String → ℕ → ℕ → Reader ℕ
-numberLine key low high text = let n = leading 0 (drop (length (ascii key)) text) in
+unfoldable pub number_line : String → ℕ → ℕ → Reader ℕ
+number_line key low high text = let n = leading 0 (drop (length (ascii key)) text) in
     cond (leb low n && leb n high) (maybe (after (line key n) text) (bad text) (λ rest. good n rest)) (bad text)
 
 -- ".. or word": one of these lines
@@ -61,45 +61,45 @@ word_line (w ∷ ws) text = let r = word_line ws text in maybe (after (ascii w.0
 
 -- "Ranges: handle and obj 1 to 128 [512 by 5/13], alert and objects 0 to 128 [512], waits 0 to 32, n 0 to 64, next and
 -- wait 1 to 2^64-1, flags 0 or 1, else the whole width."
-abbrev pub number32Line : String → Reader ℕ
-number32Line key = numberLine key 0 (word32 - 1)
+abbrev pub number32_line : String → Reader ℕ
+number32_line key = number_line key 0 (word32 - 1)
 
-abbrev pub flagLine : String → Reader Bool
-flagLine key = numberLine key 0 1 >>= λ n. give (not (eqb n 0))
+abbrev pub flag_line : String → Reader Bool
+flag_line key = number_line key 0 1 >>= λ n. give (not (eqb n 0))
 
-unfoldable pub readValues : Kind → Reader Object
-readValues aSemaphore = do
-  c ← number32Line "count="
-  m ← number32Line "max="
+unfoldable pub read_values : Kind → Reader Object
+read_values aSemaphore = do
+  c ← number32_line "count="
+  m ← number32_line "max="
   give (semaphore c m)
-readValues aMutex = do
-  o ← number32Line "owner="
-  c ← number32Line "count="
-  a ← flagLine "abandoned="
+read_values aMutex = do
+  o ← number32_line "owner="
+  c ← number32_line "count="
+  a ← flag_line "abandoned="
   give (mutex o c a)
-readValues anEvent = do
-  s ← flagLine "signaled="
-  m ← flagLine "manual="
+read_values anEvent = do
+  s ← flag_line "signaled="
+  m ← flag_line "manual="
   give (event s m)
 
 -- an object with its handle
-unfoldable pub readObject : Reader (ℕ × Object)
-readObject = do
-  h ← numberLine "handle=" 1 objectPlaces
+unfoldable pub read_object : Reader (ℕ × Object)
+read_object = do
+  h ← number_line "handle=" 1 object_places
   k ← word_line (("kind=sem\n", aSemaphore) ∷ ("kind=mutex\n", aMutex) ∷ ("kind=event\n", anEvent) ∷ [])
-  x ← readValues k
+  x ← read_values k
   give (h, x)
 
-unfoldable pub readWait : Reader Wait
-readWait = do
-  t ← numberLine "wait=" 1 never
+unfoldable pub read_wait : Reader Wait
+read_wait = do
+  t ← number_line "wait=" 1 never
   m ← word_line (("mode=any\n", any) ∷ ("mode=all\n", all) ∷ [])
-  o ← number32Line "owner="
+  o ← number32_line "owner="
   c ← word_line (("clock=mono\n", 0) ∷ ("clock=real\n", 1) ∷ [])
-  e ← numberLine "timeout=" 0 never
-  a ← numberLine "alert=" 0 objectPlaces
-  n ← numberLine "n=" 0 maxListed
-  l ← times n (numberLine "obj=" 1 objectPlaces)
+  e ← number_line "timeout=" 0 never
+  a ← number_line "alert=" 0 object_places
+  n ← number_line "n=" 0 max_listed
+  l ← times n (number_line "obj=" 1 object_places)
   give record { ticket = t; mode = m; owner = o; clock = c; timeout = e; alert = a; list = l }
 
 -- THE WHOLE TEXT, line after line
@@ -109,12 +109,12 @@ pub record Lines : Type 0 where
   pub waits : List Wait
   pub sum : ℕ
 
-unfoldable pub readSnapshot : Reader Lines
-readSnapshot = do
-  t ← numberLine "next=" 1 never
-  k ← numberLine "objects=" 0 objectPlaces
-  os ← times k readObject
-  m ← numberLine "waits=" 0 waitPlaces
-  ws ← times m readWait
-  u ← number32Line "sum="
+unfoldable pub read_snapshot : Reader Lines
+read_snapshot = do
+  t ← number_line "next=" 1 never
+  k ← number_line "objects=" 0 object_places
+  os ← times k read_object
+  m ← number_line "waits=" 0 wait_places
+  ws ← times m read_wait
+  u ← number32_line "sum="
   give record { next = t; objects = os; waits = ws; sum = u }

@@ -1,36 +1,36 @@
 -- Which texts are accepted, what state they show, the call, and histories with readings in them (3/13).
 use Rattle.std.specs.Prelude.{◌≡◌, Bool, not, cond, List, [], ◌∷◌, ◌++◌, map, ◌↔◌, ℕ, ◌-◌, length, replicate, eqb}
-use Rattle.model.specs.Sizes.{objectPlaces, waitPlaces}
+use Rattle.model.specs.Sizes.{object_places, wait_places}
 use Rattle.model.specs.Basics.{all_of, number, done, corrupt, notASnapshot}
 use Rattle.model.specs.Objects.{Object, empty}
-use Rattle.model.specs.Waits.{Wait, WaitPlace, free, waiting, State, initial, withWaits, put_at, servable}
-use Rattle.model.specs.Waits.{anyWaiting}
-use Rattle.model.specs.Calls.{nothingLent, Call, WithinWidths}
-use Rattle.model.specs.Layout.{tableLength, encode, validState, sameCells}
-use Rattle.model.specs.Snapshot.{queueFrom, snapshotText}
-use Rattle.model.specs.Steps.{Outcome, unaltered, holding, tableStep, referenceStep, makeTables}
+use Rattle.model.specs.Waits.{Wait, WaitPlace, free, waiting, State, initial, with_waits, put_at, servable}
+use Rattle.model.specs.Waits.{any_waiting}
+use Rattle.model.specs.Calls.{nothing_lent, Call, WithinWidths}
+use Rattle.model.specs.Layout.{table_length, encode, valid_state, same_cells}
+use Rattle.model.specs.Snapshot.{queue_from, snapshot_text}
+use Rattle.model.specs.Steps.{Outcome, unaltered, holding, table_step, reference_step, make_tables}
 use Rattle.model.specs.Notions.{◌isIn◌}
-use Rattle.model.specs.Reading.{byRead, Lines, readSnapshot}
+use Rattle.model.specs.Reading.{by_read, Lines, read_snapshot}
 
 -- "Objects return to their places; waits fill the wait places by ticket."
 unfoldable pub returned : List Object → List (ℕ × Object) → List Object
 returned os [] = os
 returned os (x ∷ xs) = returned (put_at os x.0 x.1) xs
 
-abbrev pub lowestPlaces : List Wait → List WaitPlace
-lowestPlaces ws = map waiting ws ++ replicate (waitPlaces - length ws) free
+abbrev pub lowest_places : List Wait → List WaitPlace
+lowest_places ws = map waiting ws ++ replicate (wait_places - length ws) free
 
 -- the state that the lines show
 abbrev pub shown : Lines → State
 shown l = record {
-  objects = returned (replicate objectPlaces empty) l.objects;
-  waits = lowestPlaces l.waits;
+  objects = returned (replicate object_places empty) l.objects;
+  waits = lowest_places l.waits;
   next = l.next;
 }
 
 -- "no queued wait could be served", as a test
 abbrev pub quiet : State → Bool
-quiet s = not (anyWaiting (servable s.objects) s.waits)
+quiet s = not (any_waiting (servable s.objects) s.waits)
 
 pub data Restored : Type 0 where
   accepted : State → Restored
@@ -39,34 +39,34 @@ pub data Restored : Type 0 where
 -- "The reader accepts exactly the texts that the writer can produce from sound tables in which no queued wait could be
 -- served": the state that the lines show is valid and quiet, and its snapshot is this text; "else offset 0".
 unfoldable pub judged : List ℕ → State → Restored
-judged text s = cond (all_of (validState s ∷ quiet s ∷ sameCells (snapshotText s) text ∷ [])) (accepted s) (refused 0)
+judged text s = cond (all_of (valid_state s ∷ quiet s ∷ same_cells (snapshot_text s) text ∷ [])) (accepted s) (refused 0)
 
 -- "Anything else is .. the offset of the first line that has not the key due there .." (the text's length if it ends
 -- there: then nothing is left)
 unfoldable pub restored : List ℕ → Restored
 restored text =
-    byRead (readSnapshot text) (λ from. refused (length text - length from)) (λ l rest. judged text (shown l))
+    by_read (read_snapshot text) (λ from. refused (length text - length from)) (λ l rest. judged text (shown l))
 
-abbrev pub byRestored {ℓ} : {B : Type ℓ} → Restored → (State → B) → (ℕ → B) → B
-byRestored (accepted s) a r = a s
-byRestored (refused offset) a r = r offset
+abbrev pub by_restored {ℓ} : {B : Type ℓ} → Restored → (State → B) → (ℕ → B) → B
+by_restored (accepted s) a r = a s
+by_restored (refused offset) a r = r offset
 
 -- THE CALL. "Of the lent tables only the lengths matter, else 9." "new answer 13, tables unaltered, with the offset"
 abbrev pub unread : {Held : Type 0} → ℕ → Held → Outcome Held
 unread offset h =
-    record { answer = number notASnapshot; first = offset; second = 0; reports = []; lent = nothingLent; held = h }
+    record { answer = number notASnapshot; first = offset; second = 0; reports = []; lent = nothing_lent; held = h }
 
-unfoldable pub restoreTables : List ℕ → List ℕ → Outcome (List ℕ)
-restoreTables t text = cond (eqb (length t) tableLength)
-    (byRestored (restored text) (λ s. unaltered (number done) nothingLent (encode s)) (λ o. unread o t))
-    (unaltered (number corrupt) nothingLent t)
+unfoldable pub restore_tables : List ℕ → List ℕ → Outcome (List ℕ)
+restore_tables t text = cond (eqb (length t) table_length)
+    (by_restored (restored text) (λ s. unaltered (number done) nothing_lent (encode s)) (λ o. unread o t))
+    (unaltered (number corrupt) nothing_lent t)
 
 -- the state with its waits in the lowest places by ticket
 abbrev pub queue : State → List Wait
-queue s = queueFrom (length s.waits) 0 s.waits
+queue s = queue_from (length s.waits) 0 s.waits
 
 abbrev pub placed : State → State
-placed s = withWaits s (lowestPlaces (queue s))
+placed s = with_waits s (lowest_places (queue s))
 
 -- "they differ at most in which wait places their waits fill"
 pub record SameButPlaces (a b : State) : Type 0 where
@@ -87,16 +87,16 @@ WithinEntry making = Unit {0}
 WithinEntry (reading text) = Unit {0}
 WithinEntry (calling c) = WithinWidths c
 
-abbrev pub tableEntry : List ℕ → Entry → Outcome (List ℕ)
-tableEntry t making = makeTables t
-tableEntry t (reading text) = restoreTables t text
-tableEntry t (calling c) = tableStep t c
+abbrev pub table_entry : List ℕ → Entry → Outcome (List ℕ)
+table_entry t making = make_tables t
+table_entry t (reading text) = restore_tables t text
+table_entry t (calling c) = table_step t c
 
-abbrev pub referenceEntry : State → Entry → Outcome State
-referenceEntry s making = unaltered (number done) nothingLent initial
-referenceEntry s (reading text) =
-    byRestored (restored text) (λ r. unaltered (number done) nothingLent r) (λ o. unread o s)
-referenceEntry s (calling c) = referenceStep s c
+abbrev pub reference_entry : State → Entry → Outcome State
+reference_entry s making = unaltered (number done) nothing_lent initial
+reference_entry s (reading text) =
+    by_restored (restored text) (λ r. unaltered (number done) nothing_lent r) (λ o. unread o s)
+reference_entry s (calling c) = reference_step s c
 
 -- WHAT A CALLER IS TOLD of an outcome, all but what is held: the answer, both numbers, the reports, every cell of the
 -- lent wake list and buffer. In it a restored board is compared with one that never stopped.

@@ -3,10 +3,10 @@ use Rattle.std.specs.Prelude.{◌||◌, cond, List, [], ◌∷◌, ◌++◌, ℕ
 use Rattle.std.proofs.Math.Option.{Option, none, some}
 use Rattle.model.specs.Basics.{maybe, overwrite, number, done, corrupt, listShort}
 use Rattle.model.specs.Objects.{cleared}
-use Rattle.model.specs.Waits.{all, State, initial, objectAt, putObject, Report, Woken, wakeByWalk, wakeBySearch}
-use Rattle.model.specs.Calls.{Operation, read, wait, Lent, lend, nothingLent, Call, least, Refusal, refusal}
+use Rattle.model.specs.Waits.{all, State, initial, object_at, put_object, Report, Woken, wake_by_walk, wake_by_search}
+use Rattle.model.specs.Calls.{Operation, read, wait, Lent, lend, nothing_lent, Call, least, Refusal, refusal}
 use Rattle.model.specs.Calls.{refusals, Change, change}
-use Rattle.model.specs.Layout.{tableLength, encode, view, validTables}
+use Rattle.model.specs.Layout.{table_length, encode, view, valid_tables}
 
 -- "the answer and all numbers with it; the reports (ticket, answer, index) in order ..; every cell of lists and buffers
 -- lent for writing; every value that the reckoning holds, place by place". What is held is a state, or a list of cells.
@@ -22,17 +22,17 @@ pub record Outcome (Held : Type 0) : Type 0 where
 abbrev pub unaltered : {Held : Type 0} → ℕ → Lent → Held → Outcome Held
 unaltered n l h = record { answer = n; first = 0; second = 0; reports = []; lent = l; held = h }
 
--- "Order: 9" (`tableStep`) ", 12, 1, then 2, 3, 7, 10"
-abbrev pub conditionsOn : Operation → Lent → State → List Refusal
-conditionsOn op l s = let n = least op in
+-- "Order: 9" (`table_step`) ", 12, 1, then 2, 3, 7, 10"
+abbrev pub conditions_on : Operation → Lent → State → List Refusal
+conditions_on op l s = let n = least op in
     refusal listShort (ltb (length l.wake) n.0 || ltb (length l.buffer) n.1) ∷ refusals op s
 
 abbrev pub conditions : Call → State → List Refusal
-conditions c s = conditionsOn c.operation c.lent s
+conditions c s = conditions_on c.operation c.lent s
 
-unfoldable pub firstRefusal : List Refusal → Option ℕ
-firstRefusal [] = none
-firstRefusal (r ∷ rs) = let later = firstRefusal rs in cond r.holds (some r.number) later
+unfoldable pub first_refusal : List Refusal → Option ℕ
+first_refusal [] = none
+first_refusal (r ∷ rs) = let later = first_refusal rs in cond r.holds (some r.number) later
 
 -- "It receives one record a woken wait (ticket, answer, index) from its front; the rest is unaltered."
 unfoldable pub records : List Report → List ℕ
@@ -47,22 +47,22 @@ completed wakeUp l d = let v = wakeUp d.changed d.state in let rs = d.reports ++
   second = d.second;
   reports = rs;
   lent = lend (overwrite (records rs) l.wake) (overwrite d.text l.buffer);
-  held = putObject v.state d.clears (cleared (objectAt v.state.objects d.clears));
+  held = put_object v.state d.clears (cleared (object_at v.state.objects d.clears));
 }
 
-abbrev pub performOn : (List ℕ → State → Woken) → State → Operation → Lent → Outcome State
-performOn wakeUp s op l =
-    maybe (firstRefusal (conditionsOn op l s)) (completed wakeUp l (change op s)) (λ n. unaltered n l s)
+abbrev pub perform_on : (List ℕ → State → Woken) → State → Operation → Lent → Outcome State
+perform_on wakeUp s op l =
+    maybe (first_refusal (conditions_on op l s)) (completed wakeUp l (change op s)) (λ n. unaltered n l s)
 
 abbrev pub perform : (List ℕ → State → Woken) → State → Call → Outcome State
-perform wakeUp s c = performOn wakeUp s c.operation c.lent
+perform wakeUp s c = perform_on wakeUp s c.operation c.lent
 
 -- THE LIBRARY on states, and THE REFERENCE
-unfoldable pub libraryStep : State → Call → Outcome State
-libraryStep s c = perform wakeByWalk s c
+unfoldable pub library_step : State → Call → Outcome State
+library_step s c = perform wake_by_walk s c
 
-unfoldable pub referenceStep : State → Call → Outcome State
-referenceStep s c = perform wakeBySearch s c
+unfoldable pub reference_step : State → Call → Outcome State
+reference_step s c = perform wake_by_search s c
 
 -- AN OUTCOME ON TABLES: what is held, as cells; read back, "the tables being read by their layout in docs/"
 abbrev pub holding : {Held Kept : Type 0} → (Held → Kept) → Outcome Held → Outcome Kept
@@ -75,15 +75,15 @@ holding f o = record {
   held = f o.held;
 }
 
-abbrev pub onTables : Outcome State → Outcome (List ℕ)
-onTables o = holding encode o
+abbrev pub on_tables : Outcome State → Outcome (List ℕ)
+on_tables o = holding encode o
 
-abbrev pub asRead : Outcome (List ℕ) → Outcome State
-asRead o = holding view o
+abbrev pub as_read : Outcome (List ℕ) → Outcome State
+as_read o = holding view o
 
 -- THE LIBRARY ON TABLES. "9 damaged tables: nothing altered", first in the order
-unfoldable pub tableStep : List ℕ → Call → Outcome (List ℕ)
-tableStep t c = cond (validTables t) (onTables (libraryStep (view t) c)) (unaltered (number corrupt) c.lent t)
+unfoldable pub table_step : List ℕ → Call → Outcome (List ℕ)
+table_step t c = cond (valid_tables t) (on_tables (library_step (view t) c)) (unaltered (number corrupt) c.lent t)
 
 -- WHAT A HOST SEES of it, fixed by every public contract: the answer, two numbers and the number of records; every cell
 -- of what was lent, and of the tables.
@@ -117,6 +117,6 @@ run step h [] = []
 run step h (c ∷ cs) = let o = step h c in o ∷ run step o.held cs
 
 -- MAKING. "Making needs only the lengths; else 9." "Newly made tables are empty, next ticket 1."
-unfoldable pub makeTables : List ℕ → Outcome (List ℕ)
-makeTables t = cond (eqb (length t) tableLength) (unaltered (number done) nothingLent (encode initial))
-    (unaltered (number corrupt) nothingLent t)
+unfoldable pub make_tables : List ℕ → Outcome (List ℕ)
+make_tables t = cond (eqb (length t) table_length) (unaltered (number done) nothing_lent (encode initial))
+    (unaltered (number corrupt) nothing_lent t)

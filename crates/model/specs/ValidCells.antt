@@ -1,19 +1,19 @@
 -- Valid tables (01: sound) line by line, as document 01's list "Sound tables" has them, in terms of cells. Proved
--- equivalent to the test `validTables` both ways (`valid-exactly`), so "damaged exactly if" can be read off here.
+-- equivalent to the test `valid_tables` both ways (`valid_exactly`), so "damaged exactly if" can be read off here.
 use Rattle.std.specs.Prelude.{◌≡◌, List, ◌⊎◌, ℕ, ◌+◌, ◌-◌, ◌≤◌, ◌<◌, length, get_or}
-use Rattle.model.specs.Sizes.{objectPlaces, waitPlaces, maxListed, word32, word64}
-use Rattle.model.specs.Layout.{headerSize, waitSize, tableLength, inObject, inWait}
+use Rattle.model.specs.Sizes.{object_places, wait_places, max_listed, word32, word64}
+use Rattle.model.specs.Layout.{header_size, wait_size, table_length, in_object, in_wait}
 
 -- h is the handle of an object of some kind; of an event
 pub record Occupied (t : List ℕ) (h : ℕ) : Type 0 where
   pub low : 1 ≤ h
-  pub high : h ≤ objectPlaces
-  pub kind : inObject t (h - 1) 0 ≡ 0 → ⊥
+  pub high : h ≤ object_places
+  pub kind : in_object t (h - 1) 0 ≡ 0 → ⊥
 
 pub record OfEvent (t : List ℕ) (h : ℕ) : Type 0 where
   pub low : 1 ≤ h
-  pub high : h ≤ objectPlaces
-  pub kind : inObject t (h - 1) 0 ≡ 3
+  pub high : h ≤ object_places
+  pub kind : in_object t (h - 1) 0 ≡ 3
 
 pub record ValidObject (kind count owner attribute : ℕ) : Type 0 where
   -- "every cell is in its range; empty places .. hold zeros"
@@ -33,32 +33,32 @@ pub record ValidObject (kind count owner attribute : ℕ) : Type 0 where
 -- "each queued wait has .."
 pub record ValidWait (t : List ℕ) (p : ℕ) : Type 0 where
   -- "an owner other than 0"
-  pub owner : (1 ≤ inWait t p 2) × (inWait t p 2 < word32)
+  pub owner : (1 ≤ in_wait t p 2) × (in_wait t p 2 < word32)
   -- "a ticket of 1 or more [`queued` below] that no other wait has and that is below the next ticket"
-  pub below : inWait t p 0 < get_or t 0 0
-  pub alone : (q : ℕ) → q < waitPlaces → inWait t q 0 ≡ inWait t p 0 → q ≡ p
+  pub below : in_wait t p 0 < get_or t 0 0
+  pub alone : (q : ℕ) → q < wait_places → in_wait t q 0 ≡ in_wait t p 0 → q ≡ p
   -- "a list of 1 to 64 occupied handles", and 1/13: "Sound tables allow n=0 for any"; "unused list cells hold zeros"
-  pub listed : (inWait t p 1 ≡ 1 → 1 ≤ inWait t p 5) × (inWait t p 5 ≤ maxListed)
-  pub occupied : (k : ℕ) → k < inWait t p 5 → Occupied t (inWait t p (headerSize + k))
-  pub unused : (k : ℕ) → inWait t p 5 ≤ k → k < maxListed → inWait t p (headerSize + k) ≡ 0
+  pub listed : (in_wait t p 1 ≡ 1 → 1 ≤ in_wait t p 5) × (in_wait t p 5 ≤ max_listed)
+  pub occupied : (k : ℕ) → k < in_wait t p 5 → Occupied t (in_wait t p (header_size + k))
+  pub unused : (k : ℕ) → in_wait t p 5 ≤ k → k < max_listed → in_wait t p (header_size + k) ≡ 0
   -- "an alert that is 0 or an event's handle"
-  pub alert : (inWait t p 6 ≡ 0) ⊎ OfEvent t (inWait t p 6)
+  pub alert : (in_wait t p 6 ≡ 0) ⊎ OfEvent t (in_wait t p 6)
   -- "every cell is in its range"
-  pub mode : inWait t p 1 ≤ 1
-  pub clock : inWait t p 3 ≤ 1
-  pub timeout : inWait t p 4 < word64
+  pub mode : in_wait t p 1 ≤ 1
+  pub clock : in_wait t p 3 ≤ 1
+  pub timeout : in_wait t p 4 < word64
   -- "a wait for all has no handle twice, its alert included"
-  pub once : inWait t p 1 ≡ 1 → (k : ℕ) → k < inWait t p 5
-      → (inWait t p (headerSize + k) ≡ inWait t p 6 → ⊥)
-      × ((j : ℕ) → j < k → inWait t p (headerSize + j) ≡ inWait t p (headerSize + k) → ⊥)
+  pub once : in_wait t p 1 ≡ 1 → (k : ℕ) → k < in_wait t p 5
+      → (in_wait t p (header_size + k) ≡ in_wait t p 6 → ⊥)
+      × ((j : ℕ) → j < k → in_wait t p (header_size + j) ≡ in_wait t p (header_size + k) → ⊥)
 
 pub record ValidCells (t : List ℕ) : Type 0 where
   -- "their lengths are those in docs/"
-  pub size : length t ≡ tableLength
+  pub size : length t ≡ table_length
   -- "the next ticket is 1 or more"
   pub next : (1 ≤ get_or t 0 0) × (get_or t 0 0 < word64)
-  pub objects : (p : ℕ) → p < objectPlaces
-      → ValidObject (inObject t p 0) (inObject t p 1) (inObject t p 2) (inObject t p 3)
+  pub objects : (p : ℕ) → p < object_places
+      → ValidObject (in_object t p 0) (in_object t p 1) (in_object t p 2) (in_object t p 3)
   -- "empty places .. hold zeros"
-  pub free : (p : ℕ) → p < waitPlaces → inWait t p 0 ≡ 0 → (j : ℕ) → j < waitSize → inWait t p j ≡ 0
-  pub queued : (p : ℕ) → p < waitPlaces → (inWait t p 0 ≡ 0 → ⊥) → ValidWait t p
+  pub free : (p : ℕ) → p < wait_places → in_wait t p 0 ≡ 0 → (j : ℕ) → j < wait_size → in_wait t p j ≡ 0
+  pub queued : (p : ℕ) → p < wait_places → (in_wait t p 0 ≡ 0 → ⊥) → ValidWait t p

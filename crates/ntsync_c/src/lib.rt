@@ -3,9 +3,9 @@
 ghost use Rattle.std.specs.Prelude.{◌≡◌, [], ◌∷◌};
 ghost use Rattle.model.specs.Calls.{create, close, resetEvent, read, signal, cancel, snapshot, wait, expire};
 ghost use Rattle.model.specs.Calls.{post, unlock, kill, setEvent, pulseEvent, aSemaphore, aMutex, anEvent};
-ghost use Rattle.model.specs.Calls.{nothingLent, wakeLent, bufferLent, asks};
-ghost use Rattle.model.specs.Steps.{tableStep, makeTables, seen, sees};
-ghost use Rattle.model.specs.Restore.{restoreTables};
+ghost use Rattle.model.specs.Calls.{nothing_lent, wake_lent, buffer_lent, asks};
+ghost use Rattle.model.specs.Steps.{table_step, make_tables, seen, sees};
+ghost use Rattle.model.specs.Restore.{restore_tables};
 ghost use Rattle.model.specs.Waits.{any, all};
 
 use ntsync::{Created, EventState, MutexState, Restored, SemaphoreState, Waited, Written};
@@ -23,80 +23,80 @@ pub extern "C" fn ntsync_version() -> u32
 
 #[unsafe(no_mangle)]
 pub extern "C" fn ntsync_init(tables: &mut [u64]) -> u32
-    ensures { seen (makeTables tables.old)
-        ≡ sees (result ∷ 0 ∷ 0 ∷ 0 ∷ []) nothingLent tables.new }
+    ensures { seen (make_tables tables.old)
+        ≡ sees (result ∷ 0 ∷ 0 ∷ 0 ∷ []) nothing_lent tables.new }
 {
     ntsync::init(tables)
 }
 
 #[unsafe(no_mangle)]
 pub extern "C" fn ntsync_create_sem(tables: &mut [u64], count: u32, max: u32) -> Created
-    ensures { seen (tableStep tables.old (asks (create aSemaphore count max) nothingLent))
-        ≡ sees (result.answer ∷ result.handle ∷ 0 ∷ 0 ∷ []) nothingLent tables.new }
+    ensures { seen (table_step tables.old (asks (create aSemaphore count max) nothing_lent))
+        ≡ sees (result.answer ∷ result.handle ∷ 0 ∷ 0 ∷ []) nothing_lent tables.new }
 {
     ntsync::create_sem(tables, count, max)
 }
 
 #[unsafe(no_mangle)]
 pub extern "C" fn ntsync_create_mutex(tables: &mut [u64], owner: u32, count: u32) -> Created
-    ensures { seen (tableStep tables.old (asks (create aMutex owner count) nothingLent))
-        ≡ sees (result.answer ∷ result.handle ∷ 0 ∷ 0 ∷ []) nothingLent tables.new }
+    ensures { seen (table_step tables.old (asks (create aMutex owner count) nothing_lent))
+        ≡ sees (result.answer ∷ result.handle ∷ 0 ∷ 0 ∷ []) nothing_lent tables.new }
 {
     ntsync::create_mutex(tables, owner, count)
 }
 
 #[unsafe(no_mangle)]
 pub extern "C" fn ntsync_create_event(tables: &mut [u64], signaled: u32, manual: u32) -> Created
-    ensures { seen (tableStep tables.old (asks (create anEvent signaled manual) nothingLent))
-        ≡ sees (result.answer ∷ result.handle ∷ 0 ∷ 0 ∷ []) nothingLent tables.new }
+    ensures { seen (table_step tables.old (asks (create anEvent signaled manual) nothing_lent))
+        ≡ sees (result.answer ∷ result.handle ∷ 0 ∷ 0 ∷ []) nothing_lent tables.new }
 {
     ntsync::create_event(tables, signaled, manual)
 }
 
 #[unsafe(no_mangle)]
 pub extern "C" fn ntsync_read_sem(tables: &[u64], handle: u32) -> SemaphoreState
-    ensures { seen (tableStep tables.now (asks (read aSemaphore handle) nothingLent))
-        ≡ sees (result.answer ∷ result.count ∷ result.max ∷ 0 ∷ []) nothingLent tables.now }
+    ensures { seen (table_step tables.now (asks (read aSemaphore handle) nothing_lent))
+        ≡ sees (result.answer ∷ result.count ∷ result.max ∷ 0 ∷ []) nothing_lent tables.now }
 {
     ntsync::read_sem(tables, handle)
 }
 
 #[unsafe(no_mangle)]
 pub extern "C" fn ntsync_read_mutex(tables: &[u64], handle: u32) -> MutexState
-    ensures { seen (tableStep tables.now (asks (read aMutex handle) nothingLent))
-        ≡ sees (result.answer ∷ result.owner ∷ result.count ∷ 0 ∷ []) nothingLent tables.now }
+    ensures { seen (table_step tables.now (asks (read aMutex handle) nothing_lent))
+        ≡ sees (result.answer ∷ result.owner ∷ result.count ∷ 0 ∷ []) nothing_lent tables.now }
 {
     ntsync::read_mutex(tables, handle)
 }
 
 #[unsafe(no_mangle)]
 pub extern "C" fn ntsync_read_event(tables: &[u64], handle: u32) -> EventState
-    ensures { seen (tableStep tables.now (asks (read anEvent handle) nothingLent))
-        ≡ sees (result.answer ∷ result.signaled ∷ result.manual ∷ 0 ∷ []) nothingLent tables.now }
+    ensures { seen (table_step tables.now (asks (read anEvent handle) nothing_lent))
+        ≡ sees (result.answer ∷ result.signaled ∷ result.manual ∷ 0 ∷ []) nothing_lent tables.now }
 {
     ntsync::read_event(tables, handle)
 }
 
 #[unsafe(no_mangle)]
 pub extern "C" fn ntsync_close(tables: &mut [u64], handle: u32) -> u32
-    ensures { seen (tableStep tables.old (asks (close handle) nothingLent))
-        ≡ sees (result ∷ 0 ∷ 0 ∷ 0 ∷ []) nothingLent tables.new }
+    ensures { seen (table_step tables.old (asks (close handle) nothing_lent))
+        ≡ sees (result ∷ 0 ∷ 0 ∷ 0 ∷ []) nothing_lent tables.new }
 {
     ntsync::close(tables, handle)
 }
 
 #[unsafe(no_mangle)]
 pub extern "C" fn ntsync_reset(tables: &mut [u64], handle: u32) -> Changed
-    ensures { seen (tableStep tables.old (asks (resetEvent handle) nothingLent))
-        ≡ sees (result.answer ∷ result.previous ∷ 0 ∷ result.woken ∷ []) nothingLent tables.new }
+    ensures { seen (table_step tables.old (asks (resetEvent handle) nothing_lent))
+        ≡ sees (result.answer ∷ result.previous ∷ 0 ∷ result.woken ∷ []) nothing_lent tables.new }
 {
     ntsync::reset(tables, handle)
 }
 
 #[unsafe(no_mangle)]
 pub extern "C" fn ntsync_cancel(tables: &mut [u64], ticket: u64) -> u32
-    ensures { seen (tableStep tables.old (asks (cancel ticket) nothingLent))
-        ≡ sees (result ∷ 0 ∷ 0 ∷ 0 ∷ []) nothingLent tables.new }
+    ensures { seen (table_step tables.old (asks (cancel ticket) nothing_lent))
+        ≡ sees (result ∷ 0 ∷ 0 ∷ 0 ∷ []) nothing_lent tables.new }
 {
     ntsync::cancel(tables, ticket)
 }
@@ -112,9 +112,9 @@ pub extern "C" fn ntsync_wait_any(
     timeout: u64,
     time: u64,
 ) -> Waited
-    ensures { seen (tableStep tables.old
-        (asks (wait any handles.now owner flags pad alert timeout time) nothingLent))
-        ≡ sees (result.answer ∷ result.index ∷ result.ticket ∷ 0 ∷ []) nothingLent tables.new }
+    ensures { seen (table_step tables.old
+        (asks (wait any handles.now owner flags pad alert timeout time) nothing_lent))
+        ≡ sees (result.answer ∷ result.index ∷ result.ticket ∷ 0 ∷ []) nothing_lent tables.new }
 {
     ntsync::wait_any(tables, handles, owner, alert, flags, pad, timeout, time)
 }
@@ -130,9 +130,9 @@ pub extern "C" fn ntsync_wait_all(
     timeout: u64,
     time: u64,
 ) -> Waited
-    ensures { seen (tableStep tables.old
-        (asks (wait all handles.now owner flags pad alert timeout time) nothingLent))
-        ≡ sees (result.answer ∷ result.index ∷ result.ticket ∷ 0 ∷ []) nothingLent tables.new }
+    ensures { seen (table_step tables.old
+        (asks (wait all handles.now owner flags pad alert timeout time) nothing_lent))
+        ≡ sees (result.answer ∷ result.index ∷ result.ticket ∷ 0 ∷ []) nothing_lent tables.new }
 {
     ntsync::wait_all(tables, handles, owner, alert, flags, pad, timeout, time)
 }
@@ -144,9 +144,9 @@ pub extern "C" fn ntsync_post(
     handle: u32,
     add: u32,
 ) -> Changed
-    ensures { seen (tableStep tables.old
-        (asks (signal (post add) handle) (wakeLent wake.old)))
-        ≡ sees (result.answer ∷ result.previous ∷ 0 ∷ result.woken ∷ []) (wakeLent wake.new) tables.new }
+    ensures { seen (table_step tables.old
+        (asks (signal (post add) handle) (wake_lent wake.old)))
+        ≡ sees (result.answer ∷ result.previous ∷ 0 ∷ result.woken ∷ []) (wake_lent wake.new) tables.new }
 {
     ntsync::post(tables, wake, handle, add)
 }
@@ -158,9 +158,9 @@ pub extern "C" fn ntsync_unlock(
     handle: u32,
     owner: u32,
 ) -> Changed
-    ensures { seen (tableStep tables.old
-        (asks (signal (unlock owner) handle) (wakeLent wake.old)))
-        ≡ sees (result.answer ∷ result.previous ∷ 0 ∷ result.woken ∷ []) (wakeLent wake.new) tables.new }
+    ensures { seen (table_step tables.old
+        (asks (signal (unlock owner) handle) (wake_lent wake.old)))
+        ≡ sees (result.answer ∷ result.previous ∷ 0 ∷ result.woken ∷ []) (wake_lent wake.new) tables.new }
 {
     ntsync::unlock(tables, wake, handle, owner)
 }
@@ -172,27 +172,27 @@ pub extern "C" fn ntsync_kill_owner(
     handle: u32,
     owner: u32,
 ) -> Changed
-    ensures { seen (tableStep tables.old
-        (asks (signal (kill owner) handle) (wakeLent wake.old)))
-        ≡ sees (result.answer ∷ result.previous ∷ 0 ∷ result.woken ∷ []) (wakeLent wake.new) tables.new }
+    ensures { seen (table_step tables.old
+        (asks (signal (kill owner) handle) (wake_lent wake.old)))
+        ≡ sees (result.answer ∷ result.previous ∷ 0 ∷ result.woken ∷ []) (wake_lent wake.new) tables.new }
 {
     ntsync::kill_owner(tables, wake, handle, owner)
 }
 
 #[unsafe(no_mangle)]
 pub extern "C" fn ntsync_set(tables: &mut [u64], wake: &mut [u64], handle: u32) -> Changed
-    ensures { seen (tableStep tables.old
-        (asks (signal setEvent handle) (wakeLent wake.old)))
-        ≡ sees (result.answer ∷ result.previous ∷ 0 ∷ result.woken ∷ []) (wakeLent wake.new) tables.new }
+    ensures { seen (table_step tables.old
+        (asks (signal setEvent handle) (wake_lent wake.old)))
+        ≡ sees (result.answer ∷ result.previous ∷ 0 ∷ result.woken ∷ []) (wake_lent wake.new) tables.new }
 {
     ntsync::set(tables, wake, handle)
 }
 
 #[unsafe(no_mangle)]
 pub extern "C" fn ntsync_pulse(tables: &mut [u64], wake: &mut [u64], handle: u32) -> Changed
-    ensures { seen (tableStep tables.old
-        (asks (signal pulseEvent handle) (wakeLent wake.old)))
-        ≡ sees (result.answer ∷ result.previous ∷ 0 ∷ result.woken ∷ []) (wakeLent wake.new) tables.new }
+    ensures { seen (table_step tables.old
+        (asks (signal pulseEvent handle) (wake_lent wake.old)))
+        ≡ sees (result.answer ∷ result.previous ∷ 0 ∷ result.woken ∷ []) (wake_lent wake.new) tables.new }
 {
     ntsync::pulse(tables, wake, handle)
 }
@@ -204,24 +204,24 @@ pub extern "C" fn ntsync_expire(
     clock: u32,
     time: u64,
 ) -> Changed
-    ensures { seen (tableStep tables.old (asks (expire clock time) (wakeLent wake.old)))
-        ≡ sees (result.answer ∷ result.previous ∷ 0 ∷ result.woken ∷ []) (wakeLent wake.new) tables.new }
+    ensures { seen (table_step tables.old (asks (expire clock time) (wake_lent wake.old)))
+        ≡ sees (result.answer ∷ result.previous ∷ 0 ∷ result.woken ∷ []) (wake_lent wake.new) tables.new }
 {
     ntsync::expire(tables, wake, clock, time)
 }
 
 #[unsafe(no_mangle)]
 pub extern "C" fn ntsync_snapshot(tables: &[u64], buffer: &mut [u8]) -> Written
-    ensures { seen (tableStep tables.now (asks snapshot (bufferLent buffer.old)))
-        ≡ sees (result.answer ∷ result.length ∷ 0 ∷ 0 ∷ []) (bufferLent buffer.new) tables.now }
+    ensures { seen (table_step tables.now (asks snapshot (buffer_lent buffer.old)))
+        ≡ sees (result.answer ∷ result.length ∷ 0 ∷ 0 ∷ []) (buffer_lent buffer.new) tables.now }
 {
     ntsync::snapshot(tables, buffer)
 }
 
 #[unsafe(no_mangle)]
 pub extern "C" fn ntsync_restore(tables: &mut [u64], text: &[u8]) -> Restored
-    ensures { seen (restoreTables tables.old text.now)
-        ≡ sees (result.answer ∷ result.offset ∷ 0 ∷ 0 ∷ []) nothingLent tables.new }
+    ensures { seen (restore_tables tables.old text.now)
+        ≡ sees (result.answer ∷ result.offset ∷ 0 ∷ 0 ∷ []) nothing_lent tables.new }
 {
     ntsync::restore(tables, text)
 }

@@ -1,14 +1,14 @@
 // The public calls that change and wake nobody: closing an object, resetting an event, cancelling a wait.
 ghost use Rattle.std.specs.Prelude.{◌≡◌, [], ◌∷◌};
-ghost use Rattle.model.specs.Calls.{close, resetEvent, cancel, nothingLent, asks};
-ghost use Rattle.model.specs.Steps.{tableStep, seen, sees};
+ghost use Rattle.model.specs.Calls.{close, resetEvent, cancel, nothing_lent, asks};
+ghost use Rattle.model.specs.Steps.{table_step, seen, sees};
 
 use ntsync_guard::CORRUPT;
 use signals::Changed;
 
 pub fn close(tables: &mut [u64], handle: u32) -> u32
-    ensures { seen (tableStep tables.old (asks (close handle) nothingLent))
-        ≡ sees (result ∷ 0 ∷ 0 ∷ 0 ∷ []) nothingLent tables.new }
+    ensures { seen (table_step tables.old (asks (close handle) nothing_lent))
+        ≡ sees (result ∷ 0 ∷ 0 ∷ 0 ∷ []) nothing_lent tables.new }
 {
     let corrupt = !validity::valid(tables);
     if corrupt {
@@ -18,8 +18,8 @@ pub fn close(tables: &mut [u64], handle: u32) -> u32
 }
 
 pub fn reset(tables: &mut [u64], handle: u32) -> Changed
-    ensures { seen (tableStep tables.old (asks (resetEvent handle) nothingLent))
-        ≡ sees (result.answer ∷ result.previous ∷ 0 ∷ result.woken ∷ []) nothingLent tables.new }
+    ensures { seen (table_step tables.old (asks (resetEvent handle) nothing_lent))
+        ≡ sees (result.answer ∷ result.previous ∷ 0 ∷ result.woken ∷ []) nothing_lent tables.new }
 {
     let corrupt = !validity::valid(tables);
     if corrupt {
@@ -38,8 +38,8 @@ pub fn reset(tables: &mut [u64], handle: u32) -> Changed
 }
 
 pub fn cancel(tables: &mut [u64], ticket: u64) -> u32
-    ensures { seen (tableStep tables.old (asks (cancel ticket) nothingLent))
-        ≡ sees (result ∷ 0 ∷ 0 ∷ 0 ∷ []) nothingLent tables.new }
+    ensures { seen (table_step tables.old (asks (cancel ticket) nothing_lent))
+        ≡ sees (result ∷ 0 ∷ 0 ∷ 0 ∷ []) nothing_lent tables.new }
 {
     let corrupt = !validity::valid(tables);
     if corrupt {

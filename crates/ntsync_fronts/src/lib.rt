@@ -1,8 +1,8 @@
 // The calls that wake once more, each handing out the filled front of the caller's own wake list, empty after a
 // refusal; `result` gets the answer, the number handed back and the number of records.
 ghost use Rattle.std.specs.Prelude.{◌≡◌, length, take, ◌*◌, ◌≤◌};
-ghost use Rattle.model.specs.Calls.{signal, expire, post, unlock, kill, setEvent, pulseEvent, wakeLent, asks};
-ghost use Rattle.model.specs.Steps.{tableStep, handed, hands};
+ghost use Rattle.model.specs.Calls.{signal, expire, post, unlock, kill, setEvent, pulseEvent, wake_lent, asks};
+ghost use Rattle.model.specs.Steps.{table_step, handed, hands};
 
 fn front<'a>(wake: &'a mut [u64], woken: u32) -> &'a mut [u64]
     requires { 3 * woken ≤ length wake.old }
@@ -19,8 +19,8 @@ pub fn post_woken<'a>(
     handle: u32,
     add: u32,
 ) -> &'a mut [u64]
-    ensures { (handed (tableStep tables.old
-        (asks (signal (post add) handle) (wakeLent wake.old)))
+    ensures { (handed (table_step tables.old
+        (asks (signal (post add) handle) (wake_lent wake.old)))
         ≡ hands res.new result.now tables.new) × (result.ref_ptr ≡ wake.entry.ref_ptr) }
 {
     let r = ntsync_signals::post(tables, wake, handle, add);
@@ -35,8 +35,8 @@ pub fn unlock_woken<'a>(
     handle: u32,
     owner: u32,
 ) -> &'a mut [u64]
-    ensures { (handed (tableStep tables.old
-        (asks (signal (unlock owner) handle) (wakeLent wake.old)))
+    ensures { (handed (table_step tables.old
+        (asks (signal (unlock owner) handle) (wake_lent wake.old)))
         ≡ hands res.new result.now tables.new) × (result.ref_ptr ≡ wake.entry.ref_ptr) }
 {
     let r = ntsync_signals::unlock(tables, wake, handle, owner);
@@ -51,8 +51,8 @@ pub fn kill_owner_woken<'a>(
     handle: u32,
     owner: u32,
 ) -> &'a mut [u64]
-    ensures { (handed (tableStep tables.old
-        (asks (signal (kill owner) handle) (wakeLent wake.old)))
+    ensures { (handed (table_step tables.old
+        (asks (signal (kill owner) handle) (wake_lent wake.old)))
         ≡ hands res.new result.now tables.new) × (result.ref_ptr ≡ wake.entry.ref_ptr) }
 {
     let r = ntsync_signals::kill_owner(tables, wake, handle, owner);
@@ -66,8 +66,8 @@ pub fn set_woken<'a>(
     res: &mut [u64; 3],
     handle: u32,
 ) -> &'a mut [u64]
-    ensures { (handed (tableStep tables.old
-        (asks (signal setEvent handle) (wakeLent wake.old)))
+    ensures { (handed (table_step tables.old
+        (asks (signal setEvent handle) (wake_lent wake.old)))
         ≡ hands res.new result.now tables.new) × (result.ref_ptr ≡ wake.entry.ref_ptr) }
 {
     let r = ntsync_signals::set(tables, wake, handle);
@@ -81,8 +81,8 @@ pub fn pulse_woken<'a>(
     res: &mut [u64; 3],
     handle: u32,
 ) -> &'a mut [u64]
-    ensures { (handed (tableStep tables.old
-        (asks (signal pulseEvent handle) (wakeLent wake.old)))
+    ensures { (handed (table_step tables.old
+        (asks (signal pulseEvent handle) (wake_lent wake.old)))
         ≡ hands res.new result.now tables.new) × (result.ref_ptr ≡ wake.entry.ref_ptr) }
 {
     let r = ntsync_signals::pulse(tables, wake, handle);
@@ -97,7 +97,7 @@ pub fn expire_woken<'a>(
     clock: u32,
     time: u64,
 ) -> &'a mut [u64]
-    ensures { (handed (tableStep tables.old (asks (expire clock time) (wakeLent wake.old)))
+    ensures { (handed (table_step tables.old (asks (expire clock time) (wake_lent wake.old)))
         ≡ hands res.new result.now tables.new) × (result.ref_ptr ≡ wake.entry.ref_ptr) }
 {
     let r = ntsync_signals::expire(tables, wake, clock, time);

@@ -6,56 +6,56 @@ use mathlib.Core.List.{List, [], ◌∷◌}
 use lib.ListN.{length}
 use lib.Dec.{ltb}
 use borrow.Author.Tests.{lt-ltb, le-ltb}
-use Rattle.model.specs.Calls.{Operation, Lent, lend, nothingLent, asks}
-use Rattle.model.specs.Sizes.{wakeLength}
-use Rattle.model.specs.Layout.{tableLength}
-use Rattle.model.specs.Steps.{tableStep, Seen, sees, seen}
-use Rattle.model.proofs.Logic.{not-true, not-false}
-use Rattle.cells.specs.Validity.{validCells}
-use Rattle.cells.specs.Calls.{Result, refusedWith, onCells, callCells, guarded}
-use Rattle.refine.proofs.Validity.{Words, valid-length}
-use Rattle.refine.proofs.Refinement.{call-means}
+use Rattle.model.specs.Calls.{Operation, Lent, lend, nothing_lent, asks}
+use Rattle.model.specs.Sizes.{wake_length}
+use Rattle.model.specs.Layout.{table_length}
+use Rattle.model.specs.Steps.{table_step, Seen, sees, seen}
+use Rattle.model.proofs.Logic.{not_true, not_false}
+use Rattle.cells.specs.Validity.{valid_cells}
+use Rattle.cells.specs.Calls.{Result, refused_with, on_cells, call_cells, guarded}
+use Rattle.refine.proofs.Validity.{Words, valid_length}
+use Rattle.refine.proofs.Refinement.{call_means}
 
 -- what the cells' result shows of an outcome
 abbrev pub shown : Result → Seen
 shown r = sees (r.answer ∷ r.first ∷ r.second ∷ r.woken ∷ []) (lend r.wake r.buffer) r.tables
 
 -- tables that were found corrupt, or valid
-module _ (t : List ℕ) {v : Bool} (q : v ≡ validCells t) where
-  pub found-valid : not v ≡ false → validCells t ≡ true
-  found-valid n = sym q ∙ not-false v n
+module _ (t : List ℕ) {v : Bool} (q : v ≡ valid_cells t) where
+  pub found_valid : not v ≡ false → valid_cells t ≡ true
+  found_valid n = sym q ∙ not_false v n
 
-  pub found-length : not v ≡ false → length t ≡ tableLength
-  found-length n = valid-length t (found-valid n)
+  pub found_length : not v ≡ false → length t ≡ table_length
+  found_length n = valid_length t (found_valid n)
 
-  pub guarded-out : (l : Lent) (r : Result) → not v ≡ true → refusedWith 9 t l ≡ guarded l t r
-  guarded-out l r y = rw (sym q, not-true v y)
+  pub guarded_out : (l : Lent) (r : Result) → not v ≡ true → refused_with 9 t l ≡ guarded l t r
+  guarded_out l r y = rw (sym q, not_true v y)
 
-  pub guarded-in : (l : Lent) {r s : Result} → not v ≡ false → s ≡ r → s ≡ guarded l t r
-  guarded-in l {r} {s} n e = rw (found-valid n) e
+  pub guarded_in : (l : Lent) {r s : Result} → not v ≡ false → s ≡ r → s ≡ guarded l t r
+  guarded_in l {r} {s} n e = rw (found_valid n) e
 
 -- every call: a result by the cells' definition is what a host sees
-pub means : (op : Operation) (t : List ℕ) (l : Lent) {r : Result} → Words t → r ≡ guarded l t (onCells op t l) → seen (tableStep t (asks op l)) ≡ shown r
-unfolding callCells
-means op t l w e = ap shown (sym (e ∙ call-means (asks op l) t w))
+pub means : (op : Operation) (t : List ℕ) (l : Lent) {r : Result} → Words t → r ≡ guarded l t (on_cells op t l) → seen (table_step t (asks op l)) ≡ shown r
+unfolding call_cells
+means op t l w e = ap shown (sym (e ∙ call_means (asks op l) t w))
 
-module _ (op : Operation) (t : List ℕ) {v : Bool} (w : Words t) (q : v ≡ validCells t) where
-  pub corrupt : not v ≡ true → seen (tableStep t (asks op nothingLent)) ≡ shown (refusedWith 9 t nothingLent)
-  corrupt y = means op t nothingLent w (guarded-out t q nothingLent (onCells op t nothingLent) y)
+module _ (op : Operation) (t : List ℕ) {v : Bool} (w : Words t) (q : v ≡ valid_cells t) where
+  pub corrupt : not v ≡ true → seen (table_step t (asks op nothing_lent)) ≡ shown (refused_with 9 t nothing_lent)
+  corrupt y = means op t nothing_lent w (guarded_out t q nothing_lent (on_cells op t nothing_lent) y)
 
-  pub served : {r : Result} → not v ≡ false → r ≡ onCells op t nothingLent → seen (tableStep t (asks op nothingLent)) ≡ shown r
-  served n e = means op t nothingLent w (guarded-in t q nothingLent n e)
+  pub served : {r : Result} → not v ≡ false → r ≡ on_cells op t nothing_lent → seen (table_step t (asks op nothing_lent)) ≡ shown r
+  served n e = means op t nothing_lent w (guarded_in t q nothing_lent n e)
 
 -- the two tests of the calls that wake: 9, then 12
 abbrev pub tests : List ℕ → List ℕ → ℕ
-tests t wake = cond (validCells t) (cond (ltb (length wake) wakeLength) 12 0) 9
+tests t wake = cond (valid_cells t) (cond (ltb (length wake) wake_length) 12 0) 9
 
-module _ (t wake : List ℕ) {v : Bool} (q : v ≡ validCells t) where
-  pub refused-corrupt : not v ≡ true → tests t wake ≡ 9
-  refused-corrupt y = rw (sym q, not-true v y)
+module _ (t wake : List ℕ) {v : Bool} (q : v ≡ valid_cells t) where
+  pub refused_corrupt : not v ≡ true → tests t wake ≡ 9
+  refused_corrupt y = rw (sym q, not_true v y)
 
-  pub refused-short : not v ≡ false → length wake < wakeLength → tests t wake ≡ 12
-  refused-short n l = rw (found-valid t q n, lt-ltb (length wake) wakeLength l)
+  pub refused_short : not v ≡ false → length wake < wake_length → tests t wake ≡ 12
+  refused_short n l = rw (found_valid t q n, lt-ltb (length wake) wake_length l)
 
-  pub refused_none : not v ≡ false → wakeLength ≤ length wake → tests t wake ≡ 0
-  refused_none n l = rw (found-valid t q n, le-ltb (length wake) wakeLength l)
+  pub refused_none : not v ≡ false → wake_length ≤ length wake → tests t wake ≡ 0
+  refused_none n l = rw (found_valid t q n, le-ltb (length wake) wake_length l)

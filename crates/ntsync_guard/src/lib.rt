@@ -1,7 +1,7 @@
 // What the public calls share: the answers of the first two tests, and the two tests of the calls that wake.
 ghost use Rattle.std.specs.Prelude.{◌≡◌, cond, length, ltb};
-ghost use Rattle.model.specs.Sizes.{wakeLength};
-ghost use Rattle.cells.specs.Validity.{validCells};
+ghost use Rattle.model.specs.Sizes.{wake_length};
+ghost use Rattle.cells.specs.Validity.{valid_cells};
 
 pub const CORRUPT: u32 = 9;
 
@@ -12,8 +12,8 @@ const WAKE_LENGTH: usize = 3 * tables::WAIT_PLACES;
 
 // 9 for corrupt tables, then 12 for a wake list that is too short; 0 where neither.
 pub fn refused(tables: &[u64], wake: &[u64]) -> u32
-    ensures { result ≡ cond (validCells tables.now)
-        (cond (ltb (length wake.now) wakeLength) 12 0) 9 }
+    ensures { result ≡ cond (valid_cells tables.now)
+        (cond (ltb (length wake.now) wake_length) 12 0) 9 }
 {
     let sound = validity::valid(tables);
     if !sound {

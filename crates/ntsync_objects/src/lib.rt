@@ -1,8 +1,8 @@
 // The public calls that make: tables, and objects in them.
 ghost use Rattle.std.specs.Prelude.{◌≡◌, [], ◌∷◌, not};
-ghost use Rattle.model.specs.Calls.{create, aSemaphore, aMutex, anEvent, nothingLent, asks};
-ghost use Rattle.model.specs.Steps.{tableStep, makeTables, seen, sees};
-ghost use Rattle.cells.specs.Calls.{answered, createCells, guarded};
+ghost use Rattle.model.specs.Calls.{create, aSemaphore, aMutex, anEvent, nothing_lent, asks};
+ghost use Rattle.model.specs.Steps.{table_step, make_tables, seen, sees};
+ghost use Rattle.cells.specs.Calls.{answered, create_cells, guarded};
 ghost use Rattle.kinds.specs.Values.{cells_of};
 
 use calls::Numbered;
@@ -18,8 +18,8 @@ pub struct Created {
 
 // Newly made tables; only the length is looked at.
 pub fn init(tables: &mut [u64]) -> u32
-    ensures { seen (makeTables tables.old)
-        ≡ sees (result ∷ 0 ∷ 0 ∷ 0 ∷ []) nothingLent tables.new }
+    ensures { seen (make_tables tables.old)
+        ≡ sees (result ∷ 0 ∷ 0 ∷ 0 ∷ []) nothing_lent tables.new }
 {
     if tables.len() != tables::TABLE_LENGTH {
         return CORRUPT;
@@ -29,9 +29,9 @@ pub fn init(tables: &mut [u64]) -> u32
 }
 
 fn place(tables: &mut [u64], new: Creation) -> Numbered
-    ensures { answered result.answer result.number 0 tables.new nothingLent
-        ≡ guarded nothingLent tables.old
-        (createCells (not new.ok) (cells_of new.object) tables.old nothingLent) }
+    ensures { answered result.answer result.number 0 tables.new nothing_lent
+        ≡ guarded nothing_lent tables.old
+        (create_cells (not new.ok) (cells_of new.object) tables.old nothing_lent) }
 {
     let corrupt = !validity::valid(tables);
     if corrupt {
@@ -44,8 +44,8 @@ fn place(tables: &mut [u64], new: Creation) -> Numbered
 }
 
 pub fn create_sem(tables: &mut [u64], count: u32, max: u32) -> Created
-    ensures { seen (tableStep tables.old (asks (create aSemaphore count max) nothingLent))
-        ≡ sees (result.answer ∷ result.handle ∷ 0 ∷ 0 ∷ []) nothingLent tables.new }
+    ensures { seen (table_step tables.old (asks (create aSemaphore count max) nothing_lent))
+        ≡ sees (result.answer ∷ result.handle ∷ 0 ∷ 0 ∷ []) nothing_lent tables.new }
 {
     let new = Semaphore::create(count, max);
     let r = place(tables, new);
@@ -56,8 +56,8 @@ pub fn create_sem(tables: &mut [u64], count: u32, max: u32) -> Created
 }
 
 pub fn create_mutex(tables: &mut [u64], owner: u32, count: u32) -> Created
-    ensures { seen (tableStep tables.old (asks (create aMutex owner count) nothingLent))
-        ≡ sees (result.answer ∷ result.handle ∷ 0 ∷ 0 ∷ []) nothingLent tables.new }
+    ensures { seen (table_step tables.old (asks (create aMutex owner count) nothing_lent))
+        ≡ sees (result.answer ∷ result.handle ∷ 0 ∷ 0 ∷ []) nothing_lent tables.new }
 {
     let new = Mutex::create(owner, count);
     let r = place(tables, new);
@@ -68,8 +68,8 @@ pub fn create_mutex(tables: &mut [u64], owner: u32, count: u32) -> Created
 }
 
 pub fn create_event(tables: &mut [u64], signaled: u32, manual: u32) -> Created
-    ensures { seen (tableStep tables.old (asks (create anEvent signaled manual) nothingLent))
-        ≡ sees (result.answer ∷ result.handle ∷ 0 ∷ 0 ∷ []) nothingLent tables.new }
+    ensures { seen (table_step tables.old (asks (create anEvent signaled manual) nothing_lent))
+        ≡ sees (result.answer ∷ result.handle ∷ 0 ∷ 0 ∷ []) nothing_lent tables.new }
 {
     let new = Event::create(signaled, manual);
     let r = place(tables, new);

@@ -1,7 +1,7 @@
 // The public reads: an object's numbers, by its kind.
 ghost use Rattle.std.specs.Prelude.{◌≡◌, [], ◌∷◌};
-ghost use Rattle.model.specs.Calls.{read, aSemaphore, aMutex, anEvent, nothingLent, asks};
-ghost use Rattle.model.specs.Steps.{tableStep, seen, sees};
+ghost use Rattle.model.specs.Calls.{read, aSemaphore, aMutex, anEvent, nothing_lent, asks};
+ghost use Rattle.model.specs.Steps.{table_step, seen, sees};
 
 use ntsync_guard::CORRUPT;
 
@@ -30,8 +30,8 @@ pub struct EventState {
 }
 
 pub fn read_sem(tables: &[u64], handle: u32) -> SemaphoreState
-    ensures { seen (tableStep tables.now (asks (read aSemaphore handle) nothingLent))
-        ≡ sees (result.answer ∷ result.count ∷ result.max ∷ 0 ∷ []) nothingLent tables.now }
+    ensures { seen (table_step tables.now (asks (read aSemaphore handle) nothing_lent))
+        ≡ sees (result.answer ∷ result.count ∷ result.max ∷ 0 ∷ []) nothing_lent tables.now }
 {
     let corrupt = !validity::valid(tables);
     if corrupt {
@@ -50,8 +50,8 @@ pub fn read_sem(tables: &[u64], handle: u32) -> SemaphoreState
 }
 
 pub fn read_mutex(tables: &[u64], handle: u32) -> MutexState
-    ensures { seen (tableStep tables.now (asks (read aMutex handle) nothingLent))
-        ≡ sees (result.answer ∷ result.owner ∷ result.count ∷ 0 ∷ []) nothingLent tables.now }
+    ensures { seen (table_step tables.now (asks (read aMutex handle) nothing_lent))
+        ≡ sees (result.answer ∷ result.owner ∷ result.count ∷ 0 ∷ []) nothing_lent tables.now }
 {
     let corrupt = !validity::valid(tables);
     if corrupt {
@@ -70,8 +70,8 @@ pub fn read_mutex(tables: &[u64], handle: u32) -> MutexState
 }
 
 pub fn read_event(tables: &[u64], handle: u32) -> EventState
-    ensures { seen (tableStep tables.now (asks (read anEvent handle) nothingLent))
-        ≡ sees (result.answer ∷ result.signaled ∷ result.manual ∷ 0 ∷ []) nothingLent tables.now }
+    ensures { seen (table_step tables.now (asks (read anEvent handle) nothing_lent))
+        ≡ sees (result.answer ∷ result.signaled ∷ result.manual ∷ 0 ∷ []) nothing_lent tables.now }
 {
     let corrupt = !validity::valid(tables);
     if corrupt {

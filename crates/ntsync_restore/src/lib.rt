@@ -2,11 +2,11 @@
 // the lent ones as they were.
 ghost use Rattle.std.specs.Prelude.{◌≡◌, not, [], ◌∷◌, replicate};
 ghost use Rattle.model.specs.Basics.{all_of};
-ghost use Rattle.model.specs.Calls.{nothingLent};
-ghost use Rattle.model.specs.Layout.{tableLength, validTables};
+ghost use Rattle.model.specs.Calls.{nothing_lent};
+ghost use Rattle.model.specs.Layout.{table_length, valid_tables};
 ghost use Rattle.model.specs.Steps.{seen, sees};
-ghost use Rattle.model.specs.Restore.{restored, restoreTables};
-ghost use Rattle.cells.specs.Attempt.{someServable};
+ghost use Rattle.model.specs.Restore.{restored, restore_tables};
+ghost use Rattle.cells.specs.Attempt.{some_servable};
 ghost use Rattle.ntsync_restore.specs.Judged.{JudgedAs};
 
 use ntsync_guard::CORRUPT;
@@ -31,8 +31,8 @@ fn not_a_snapshot(offset: usize) -> Restored
 
 // The lines were in order, what they show is valid, and no wait in it could be served.
 fn acceptable(in_order: bool, read: &[u64]) -> bool
-    ensures { result ≡ all_of (in_order ∷ validTables read.now
-        ∷ not (someServable read.now) ∷ []) }
+    ensures { result ≡ all_of (in_order ∷ valid_tables read.now
+        ∷ not (some_servable read.now) ∷ []) }
 {
     if !in_order {
         return false;
@@ -46,7 +46,7 @@ fn acceptable(in_order: bool, read: &[u64]) -> bool
 
 // The text, read into tables of zeros, and every test of it.
 fn judge(text: &[u8], read: &mut [u64]) -> Restored
-    requires { read.old ≡ replicate tableLength 0 }
+    requires { read.old ≡ replicate table_length 0 }
     ensures { JudgedAs (restored text.now) result read.new }
 {
     let lines = reader::read_snapshot(text, read);
@@ -65,8 +65,8 @@ fn judge(text: &[u8], read: &mut [u64]) -> Restored
 
 // Of the lent tables only the length is looked at.
 pub fn restore(tables: &mut [u64], text: &[u8]) -> Restored
-    ensures { seen (restoreTables tables.old text.now)
-        ≡ sees (result.answer ∷ result.offset ∷ 0 ∷ 0 ∷ []) nothingLent tables.new }
+    ensures { seen (restore_tables tables.old text.now)
+        ≡ sees (result.answer ∷ result.offset ∷ 0 ∷ 0 ∷ []) nothing_lent tables.new }
 {
     if tables.len() != tables::TABLE_LENGTH {
         return Restored {

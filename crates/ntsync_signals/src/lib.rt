@@ -1,15 +1,15 @@
 // The public calls that wake. Each tests tables and wake list (`refused`) before its own work.
 ghost use Rattle.std.specs.Prelude.{◌≡◌, [], ◌∷◌};
-ghost use Rattle.model.specs.Calls.{signal, expire, post, unlock, kill, setEvent, pulseEvent, wakeLent, asks};
-ghost use Rattle.model.specs.Steps.{tableStep, seen, sees};
+ghost use Rattle.model.specs.Calls.{signal, expire, post, unlock, kill, setEvent, pulseEvent, wake_lent, asks};
+ghost use Rattle.model.specs.Steps.{table_step, seen, sees};
 
 use ntsync_guard::refused;
 use signals::Changed;
 
 pub fn post(tables: &mut [u64], wake: &mut [u64], handle: u32, add: u32) -> Changed
-    ensures { seen (tableStep tables.old
-        (asks (signal (post add) handle) (wakeLent wake.old)))
-        ≡ sees (result.answer ∷ result.previous ∷ 0 ∷ result.woken ∷ []) (wakeLent wake.new) tables.new }
+    ensures { seen (table_step tables.old
+        (asks (signal (post add) handle) (wake_lent wake.old)))
+        ≡ sees (result.answer ∷ result.previous ∷ 0 ∷ result.woken ∷ []) (wake_lent wake.new) tables.new }
 {
     let answer = refused(tables, wake);
     if answer != 0 {
@@ -23,9 +23,9 @@ pub fn post(tables: &mut [u64], wake: &mut [u64], handle: u32, add: u32) -> Chan
 }
 
 pub fn unlock(tables: &mut [u64], wake: &mut [u64], handle: u32, owner: u32) -> Changed
-    ensures { seen (tableStep tables.old
-        (asks (signal (unlock owner) handle) (wakeLent wake.old)))
-        ≡ sees (result.answer ∷ result.previous ∷ 0 ∷ result.woken ∷ []) (wakeLent wake.new) tables.new }
+    ensures { seen (table_step tables.old
+        (asks (signal (unlock owner) handle) (wake_lent wake.old)))
+        ≡ sees (result.answer ∷ result.previous ∷ 0 ∷ result.woken ∷ []) (wake_lent wake.new) tables.new }
 {
     let answer = refused(tables, wake);
     if answer != 0 {
@@ -39,9 +39,9 @@ pub fn unlock(tables: &mut [u64], wake: &mut [u64], handle: u32, owner: u32) -> 
 }
 
 pub fn kill_owner(tables: &mut [u64], wake: &mut [u64], handle: u32, owner: u32) -> Changed
-    ensures { seen (tableStep tables.old
-        (asks (signal (kill owner) handle) (wakeLent wake.old)))
-        ≡ sees (result.answer ∷ result.previous ∷ 0 ∷ result.woken ∷ []) (wakeLent wake.new) tables.new }
+    ensures { seen (table_step tables.old
+        (asks (signal (kill owner) handle) (wake_lent wake.old)))
+        ≡ sees (result.answer ∷ result.previous ∷ 0 ∷ result.woken ∷ []) (wake_lent wake.new) tables.new }
 {
     let answer = refused(tables, wake);
     if answer != 0 {
@@ -55,9 +55,9 @@ pub fn kill_owner(tables: &mut [u64], wake: &mut [u64], handle: u32, owner: u32)
 }
 
 pub fn set(tables: &mut [u64], wake: &mut [u64], handle: u32) -> Changed
-    ensures { seen (tableStep tables.old
-        (asks (signal setEvent handle) (wakeLent wake.old)))
-        ≡ sees (result.answer ∷ result.previous ∷ 0 ∷ result.woken ∷ []) (wakeLent wake.new) tables.new }
+    ensures { seen (table_step tables.old
+        (asks (signal setEvent handle) (wake_lent wake.old)))
+        ≡ sees (result.answer ∷ result.previous ∷ 0 ∷ result.woken ∷ []) (wake_lent wake.new) tables.new }
 {
     let answer = refused(tables, wake);
     if answer != 0 {
@@ -71,9 +71,9 @@ pub fn set(tables: &mut [u64], wake: &mut [u64], handle: u32) -> Changed
 }
 
 pub fn pulse(tables: &mut [u64], wake: &mut [u64], handle: u32) -> Changed
-    ensures { seen (tableStep tables.old
-        (asks (signal pulseEvent handle) (wakeLent wake.old)))
-        ≡ sees (result.answer ∷ result.previous ∷ 0 ∷ result.woken ∷ []) (wakeLent wake.new) tables.new }
+    ensures { seen (table_step tables.old
+        (asks (signal pulseEvent handle) (wake_lent wake.old)))
+        ≡ sees (result.answer ∷ result.previous ∷ 0 ∷ result.woken ∷ []) (wake_lent wake.new) tables.new }
 {
     let answer = refused(tables, wake);
     if answer != 0 {
@@ -87,8 +87,8 @@ pub fn pulse(tables: &mut [u64], wake: &mut [u64], handle: u32) -> Changed
 }
 
 pub fn expire(tables: &mut [u64], wake: &mut [u64], clock: u32, time: u64) -> Changed
-    ensures { seen (tableStep tables.old (asks (expire clock time) (wakeLent wake.old)))
-        ≡ sees (result.answer ∷ result.previous ∷ 0 ∷ result.woken ∷ []) (wakeLent wake.new) tables.new }
+    ensures { seen (table_step tables.old (asks (expire clock time) (wake_lent wake.old)))
+        ≡ sees (result.answer ∷ result.previous ∷ 0 ∷ result.woken ∷ []) (wake_lent wake.new) tables.new }
 {
     let answer = refused(tables, wake);
     if answer != 0 {

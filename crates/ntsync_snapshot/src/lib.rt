@@ -1,7 +1,7 @@
 // The public snapshot.
 ghost use Rattle.std.specs.Prelude.{◌≡◌, [], ◌∷◌};
-ghost use Rattle.model.specs.Calls.{snapshot, bufferLent, asks};
-ghost use Rattle.model.specs.Steps.{tableStep, seen, sees};
+ghost use Rattle.model.specs.Calls.{snapshot, buffer_lent, asks};
+ghost use Rattle.model.specs.Steps.{table_step, seen, sees};
 
 use ntsync_guard::{CORRUPT, LIST_SHORT};
 
@@ -16,8 +16,8 @@ pub struct Written {
 
 // The text goes to the buffer's front; its length. Room is tested by the least length, which no snapshot reaches.
 pub fn snapshot(tables: &[u64], buffer: &mut [u8]) -> Written
-    ensures { seen (tableStep tables.now (asks snapshot (bufferLent buffer.old)))
-        ≡ sees (result.answer ∷ result.length ∷ 0 ∷ 0 ∷ []) (bufferLent buffer.new) tables.now }
+    ensures { seen (table_step tables.now (asks snapshot (buffer_lent buffer.old)))
+        ≡ sees (result.answer ∷ result.length ∷ 0 ∷ 0 ∷ []) (buffer_lent buffer.new) tables.now }
 {
     let corrupt = !validity::valid(tables);
     if corrupt {

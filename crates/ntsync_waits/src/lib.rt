@@ -1,9 +1,9 @@
 // The public waits, for any and for all.
 ghost use Rattle.std.specs.Prelude.{◌≡◌, [], ◌∷◌};
-ghost use Rattle.model.specs.Calls.{wait, nothingLent, asks};
-ghost use Rattle.model.specs.Steps.{tableStep, seen, sees};
+ghost use Rattle.model.specs.Calls.{wait, nothing_lent, asks};
+ghost use Rattle.model.specs.Steps.{table_step, seen, sees};
 ghost use Rattle.model.specs.Waits.{any, all};
-ghost use Rattle.cells.specs.Calls.{answered, waitOnCells, guarded};
+ghost use Rattle.cells.specs.Calls.{answered, wait_on_cells, guarded};
 
 use ntsync_guard::CORRUPT;
 
@@ -26,10 +26,10 @@ fn wait(
     timeout: u64,
     time: u64,
 ) -> Waited
-    ensures { answered result.answer result.index result.ticket tables.new nothingLent
-        ≡ guarded nothingLent tables.old
-        (waitOnCells mode list.now owner flags pad alert timeout time
-        tables.old nothingLent) }
+    ensures { answered result.answer result.index result.ticket tables.new nothing_lent
+        ≡ guarded nothing_lent tables.old
+        (wait_on_cells mode list.now owner flags pad alert timeout time
+        tables.old nothing_lent) }
 {
     let corrupt = !validity::valid(tables);
     if corrupt {
@@ -67,9 +67,9 @@ pub fn wait_any(
     timeout: u64,
     time: u64,
 ) -> Waited
-    ensures { seen (tableStep tables.old
-        (asks (wait any list.now owner flags pad alert timeout time) nothingLent))
-        ≡ sees (result.answer ∷ result.index ∷ result.ticket ∷ 0 ∷ []) nothingLent tables.new }
+    ensures { seen (table_step tables.old
+        (asks (wait any list.now owner flags pad alert timeout time) nothing_lent))
+        ≡ sees (result.answer ∷ result.index ∷ result.ticket ∷ 0 ∷ []) nothing_lent tables.new }
 {
     wait(tables, list, owner, alert, 0, flags, pad, timeout, time)
 }
@@ -84,9 +84,9 @@ pub fn wait_all(
     timeout: u64,
     time: u64,
 ) -> Waited
-    ensures { seen (tableStep tables.old
-        (asks (wait all list.now owner flags pad alert timeout time) nothingLent))
-        ≡ sees (result.answer ∷ result.index ∷ result.ticket ∷ 0 ∷ []) nothingLent tables.new }
+    ensures { seen (table_step tables.old
+        (asks (wait all list.now owner flags pad alert timeout time) nothing_lent))
+        ≡ sees (result.answer ∷ result.index ∷ result.ticket ∷ 0 ∷ []) nothing_lent tables.new }
 {
     wait(tables, list, owner, alert, 1, flags, pad, timeout, time)
 }

@@ -7,35 +7,35 @@ use native.Mathlib.Omega.{arith}
 use lib.ListN.{length}
 use lib.Dec.{ltb}
 use borrow.Author.Tests.{eq-eqb, ne_eqb, lt-ltb}
-use Rattle.cells.specs.Waits.{ticketAt, modeAt, ownerAt, alertAt, list_of}
-use Rattle.cells.specs.Attempt.{signaledAt, lookAny, lookAll, listServes, servableAt, readyAt}
+use Rattle.cells.specs.Waits.{ticket_at, mode_at, owner_at, alert_at, list_of}
+use Rattle.cells.specs.Attempt.{signaled_at, look_any, look_all, list_serves, servable_at, ready_at}
 
 -- by the list
 module _ (t : List ℕ) (mode asking : ℕ) (list : List ℕ) where
-  pub any-serves : mode ≡ 0 → ltb (lookAny t asking list) (length list) ≡ listServes t mode asking list
-  unfolding listServes
-  any-serves e = rw (eq-eqb mode 0 e)
+  pub any_serves : mode ≡ 0 → ltb (look_any t asking list) (length list) ≡ list_serves t mode asking list
+  unfolding list_serves
+  any_serves e = rw (eq-eqb mode 0 e)
 
-  pub all-serves : (mode ≡ 0 → ⊥) → lookAll t asking list ≡ listServes t mode asking list
-  unfolding listServes
-  all-serves n = rw (ne_eqb mode 0 n)
+  pub all_serves : (mode ≡ 0 → ⊥) → look_all t asking list ≡ list_serves t mode asking list
+  unfolding list_serves
+  all_serves n = rw (ne_eqb mode 0 n)
 
 -- then by the alert
-module _ (t : List ℕ) (p : ℕ) {here : Bool} (h : here ≡ listServes t (modeAt t p) (ownerAt t p) (list_of t p)) where
-  pub served-by-list : here ≡ true → true ≡ servableAt t p
-  unfolding servableAt
-  served-by-list y = rw (sym h, y)
+module _ (t : List ℕ) (p : ℕ) {here : Bool} (h : here ≡ list_serves t (mode_at t p) (owner_at t p) (list_of t p)) where
+  pub served_by_list : here ≡ true → true ≡ servable_at t p
+  unfolding servable_at
+  served_by_list y = rw (sym h, y)
 
-  pub served-by-alert : here ≡ false → signaledAt t (ownerAt t p) (alertAt t p) ≡ servableAt t p
-  unfolding servableAt
-  served-by-alert n = rw (sym h, n)
+  pub served_by_alert : here ≡ false → signaled_at t (owner_at t p) (alert_at t p) ≡ servable_at t p
+  unfolding servable_at
+  served_by_alert n = rw (sym h, n)
 
 -- only where a wait is queued
-module _ (t : List ℕ) (p : ℕ) {ticket : ℕ} (q : ticket ≡ ticketAt t p) where
-  pub ready-free : ticket ≡ 0 → false ≡ readyAt t p
-  unfolding readyAt
-  ready-free e = rw (sym q, e)
+module _ (t : List ℕ) (p : ℕ) {ticket : ℕ} (q : ticket ≡ ticket_at t p) where
+  pub ready_free : ticket ≡ 0 → false ≡ ready_at t p
+  unfolding ready_at
+  ready_free e = rw (sym q, e)
 
-  pub ready-queued : (ticket ≡ 0 → ⊥) → servableAt t p ≡ readyAt t p
-  unfolding readyAt
-  ready-queued n = rw (sym q, lt-ltb 0 ticket (omega (arith, n)))
+  pub ready_queued : (ticket ≡ 0 → ⊥) → servable_at t p ≡ ready_at t p
+  unfolding ready_at
+  ready_queued n = rw (sym q, lt-ltb 0 ticket (omega (arith, n)))

@@ -1,13 +1,13 @@
 // Whether no queued wait could be served. Nothing is taken.
 ghost use Rattle.std.specs.Prelude.{◌≡◌, not, ◌<◌, length};
-ghost use Rattle.model.specs.Sizes.{waitPlaces};
-ghost use Rattle.model.specs.Layout.{tableLength};
-ghost use Rattle.cells.specs.Attempt.{listServes, servableAt, readyAt, someServable};
+ghost use Rattle.model.specs.Sizes.{wait_places};
+ghost use Rattle.model.specs.Layout.{table_length};
+ghost use Rattle.cells.specs.Attempt.{list_serves, servable_at, ready_at, some_servable};
 
 // By its list. Mode 0 is any.
 fn list_serves(t: &[u64], mode: u64, asking: u64, list: &[u64]) -> bool
-    requires { length t.now ≡ tableLength }
-    ensures { result ≡ listServes t.now mode asking list.now }
+    requires { length t.now ≡ table_length }
+    ensures { result ≡ list_serves t.now mode asking list.now }
 {
     if mode == 0 {
         let i = attempt::look_any(t, asking, list);
@@ -18,8 +18,8 @@ fn list_serves(t: &[u64], mode: u64, asking: u64, list: &[u64]) -> bool
 
 // By its list or its alert.
 fn servable(t: &[u64], p: usize) -> bool
-    requires { (p < waitPlaces) × (length t.now ≡ tableLength) }
-    ensures { result ≡ servableAt t.now p }
+    requires { (p < wait_places) × (length t.now ≡ table_length) }
+    ensures { result ≡ servable_at t.now p }
 {
     let mode = tables::mode_at(t, p);
     let asking = tables::owner_at(t, p);
@@ -34,8 +34,8 @@ fn servable(t: &[u64], p: usize) -> bool
 
 // A wait is queued at place p and could be served.
 fn ready_at(t: &[u64], p: usize) -> bool
-    requires { (p < waitPlaces) × (length t.now ≡ tableLength) }
-    ensures { result ≡ readyAt t.now p }
+    requires { (p < wait_places) × (length t.now ≡ table_length) }
+    ensures { result ≡ ready_at t.now p }
 {
     let ticket = tables::ticket_at(t, p);
     if ticket == 0 {
@@ -45,8 +45,8 @@ fn ready_at(t: &[u64], p: usize) -> bool
 }
 
 pub fn quiet(t: &[u64]) -> bool
-    requires { length t.now ≡ tableLength }
-    ensures { result ≡ not (someServable t.now) }
+    requires { length t.now ≡ table_length }
+    ensures { result ≡ not (some_servable t.now) }
 {
     let mut ready = false;
     let mut p: usize = 0;

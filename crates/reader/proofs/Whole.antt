@@ -7,67 +7,67 @@ use native.Mathlib.Omega.{arith}
 use lib.ListN.{length, take, drop, set, length-drop, take-append-drop}
 use lib.Dec.{eqb}
 use borrow.Author.Tests.{eqb-true, eq-eqb}
-use Rattle.model.specs.Sizes.{objectPlaces, waitPlaces, word32, never}
+use Rattle.model.specs.Sizes.{object_places, wait_places, word32, never}
 use Rattle.model.specs.Basics.{all_of}
 use Rattle.model.specs.Objects.{Object}
 use Rattle.model.specs.Waits.{Wait}
-use Rattle.model.specs.Snapshot.{line, byteSum}
+use Rattle.model.specs.Snapshot.{line, byte_sum}
 use Rattle.model.proofs.Logic.{clash, same_tests}
-use Rattle.model.specs.Reading.{Read, good, bad, times, numberLine, number32Line, readObject, readWait, Lines, readSnapshot}
-use Rattle.model.proofs.ReadExactly.{number-exact, snapshot-exact}
-use Rattle.model.specs.RestoreTests.{rising, handles, tickets, bodyText, inOrder}
+use Rattle.model.specs.Reading.{Read, good, bad, times, number_line, number32_line, read_object, read_wait, Lines, read_snapshot}
+use Rattle.model.proofs.ReadExactly.{number_exact, snapshot_exact}
+use Rattle.model.specs.RestoreTests.{rising, handles, tickets, body_text, in_order}
 use Rattle.lines.specs.Outcome.{outcome, Outcome}
-use Rattle.reader.specs.Contracts.{ReadObjects, ObjectsRead, ReadWaits, WaitsRead, ReadAll}
-use Rattle.reader.specs.Storing.{stored, queuedFrom}
+use Rattle.reader.specs.Values.{ReadObjects, ObjectsRead, ReadWaits, WaitsRead, ReadAll}
+use Rattle.reader.specs.Storing.{stored, queued_from}
 use Rattle.reader.specs.declared.Listed.{Listed}
-use Rattle.lines.proofs.Laws.{seq-stop, seq_on, seq-last}
+use Rattle.lines.proofs.Laws.{seq_stop, seq_on, seq_last}
 
 -- objects and waits by cases
 pub record Objects (text : List ℕ) (at n : ℕ) (t : List ℕ) (r : Listed) (end : List ℕ) : Type 0 where
   pub os : List (ℕ × Object)
-  pub reads : Outcome text (times n readObject (drop at text)) true os r.at
+  pub reads : Outcome text (times n read_object (drop at text)) true os r.at
   pub kept : end ≡ stored t os
   pub order : r.rising ≡ rising 0 (handles os)
 
-go-objects : (text : List ℕ) (at n : ℕ) (t : List ℕ) (r : Listed) (end : List ℕ) (o : Read (List (ℕ × Object))) → times n readObject (drop at text) ≡ o → ObjectsRead text t r end o → r.at ≤ length text → r.ok ≡ true → Objects text at n t r end
-go-objects text at n t r end (bad from) e h w y = clash y h.0
-go-objects text at n t r end (good os rest) e h w y = record { os = os; reads = record { reads = e ∙ ap (good os) h.1; within = w }; kept = h.2; order = h.3 }
+go_objects : (text : List ℕ) (at n : ℕ) (t : List ℕ) (r : Listed) (end : List ℕ) (o : Read (List (ℕ × Object))) → times n read_object (drop at text) ≡ o → ObjectsRead text t r end o → r.at ≤ length text → r.ok ≡ true → Objects text at n t r end
+go_objects text at n t r end (bad from) e h w y = clash y h.0
+go_objects text at n t r end (good os rest) e h w y = record { os = os; reads = record { reads = e ∙ ap (good os) h.1; within = w }; kept = h.2; order = h.3 }
 
-pub objects-good : (text : List ℕ) (at n : ℕ) (t : List ℕ) (r : Listed) (end : List ℕ) → ReadObjects text at n t r end → r.ok ≡ true → Objects text at n t r end
-objects-good text at n t r end h y = go-objects text at n t r end (times n readObject (drop at text)) refl h.objects h.within y
+pub objects_good : (text : List ℕ) (at n : ℕ) (t : List ℕ) (r : Listed) (end : List ℕ) → ReadObjects text at n t r end → r.ok ≡ true → Objects text at n t r end
+objects_good text at n t r end h y = go_objects text at n t r end (times n read_object (drop at text)) refl h.objects h.within y
 
-stop-objects : (text : List ℕ) (at n : ℕ) (t : List ℕ) (r : Listed) (end : List ℕ) (o : Read (List (ℕ × Object))) → times n readObject (drop at text) ≡ o → ObjectsRead text t r end o → r.at ≤ length text → r.ok ≡ false → Outcome text (times n readObject (drop at text)) false [] r.at
-stop-objects text at n t r end (bad from) e h w f = record { reads = e ∙ ap bad h.1; within = w }
-stop-objects text at n t r end (good os rest) e h w f = clash h.0 f
+stop_objects : (text : List ℕ) (at n : ℕ) (t : List ℕ) (r : Listed) (end : List ℕ) (o : Read (List (ℕ × Object))) → times n read_object (drop at text) ≡ o → ObjectsRead text t r end o → r.at ≤ length text → r.ok ≡ false → Outcome text (times n read_object (drop at text)) false [] r.at
+stop_objects text at n t r end (bad from) e h w f = record { reads = e ∙ ap bad h.1; within = w }
+stop_objects text at n t r end (good os rest) e h w f = clash h.0 f
 
-pub objects-bad : (text : List ℕ) (at n : ℕ) (t : List ℕ) (r : Listed) (end : List ℕ) → ReadObjects text at n t r end → r.ok ≡ false → Outcome text (times n readObject (drop at text)) false [] r.at
-objects-bad text at n t r end h f = stop-objects text at n t r end (times n readObject (drop at text)) refl h.objects h.within f
+pub objects_bad : (text : List ℕ) (at n : ℕ) (t : List ℕ) (r : Listed) (end : List ℕ) → ReadObjects text at n t r end → r.ok ≡ false → Outcome text (times n read_object (drop at text)) false [] r.at
+objects_bad text at n t r end h f = stop_objects text at n t r end (times n read_object (drop at text)) refl h.objects h.within f
 
 pub record Waits (text : List ℕ) (at n : ℕ) (t : List ℕ) (r : Listed) (end : List ℕ) : Type 0 where
   pub ws : List Wait
-  pub reads : Outcome text (times n readWait (drop at text)) true ws r.at
-  pub kept : end ≡ queuedFrom t 0 ws
+  pub reads : Outcome text (times n read_wait (drop at text)) true ws r.at
+  pub kept : end ≡ queued_from t 0 ws
   pub order : r.rising ≡ rising 0 (tickets ws)
 
-go-waits : (text : List ℕ) (at n : ℕ) (t : List ℕ) (r : Listed) (end : List ℕ) (o : Read (List Wait)) → times n readWait (drop at text) ≡ o → WaitsRead text t r end o → r.at ≤ length text → r.ok ≡ true → Waits text at n t r end
-go-waits text at n t r end (bad from) e h w y = clash y h.0
-go-waits text at n t r end (good ws rest) e h w y = record { ws = ws; reads = record { reads = e ∙ ap (good ws) h.1; within = w }; kept = h.2; order = h.3 }
+go_waits : (text : List ℕ) (at n : ℕ) (t : List ℕ) (r : Listed) (end : List ℕ) (o : Read (List Wait)) → times n read_wait (drop at text) ≡ o → WaitsRead text t r end o → r.at ≤ length text → r.ok ≡ true → Waits text at n t r end
+go_waits text at n t r end (bad from) e h w y = clash y h.0
+go_waits text at n t r end (good ws rest) e h w y = record { ws = ws; reads = record { reads = e ∙ ap (good ws) h.1; within = w }; kept = h.2; order = h.3 }
 
-pub waits-good : (text : List ℕ) (at n : ℕ) (t : List ℕ) (r : Listed) (end : List ℕ) → ReadWaits text at n t r end → r.ok ≡ true → Waits text at n t r end
-waits-good text at n t r end h y = go-waits text at n t r end (times n readWait (drop at text)) refl h.waits h.within y
+pub waits_good : (text : List ℕ) (at n : ℕ) (t : List ℕ) (r : Listed) (end : List ℕ) → ReadWaits text at n t r end → r.ok ≡ true → Waits text at n t r end
+waits_good text at n t r end h y = go_waits text at n t r end (times n read_wait (drop at text)) refl h.waits h.within y
 
-stop-waits : (text : List ℕ) (at n : ℕ) (t : List ℕ) (r : Listed) (end : List ℕ) (o : Read (List Wait)) → times n readWait (drop at text) ≡ o → WaitsRead text t r end o → r.at ≤ length text → r.ok ≡ false → Outcome text (times n readWait (drop at text)) false [] r.at
-stop-waits text at n t r end (bad from) e h w f = record { reads = e ∙ ap bad h.1; within = w }
-stop-waits text at n t r end (good ws rest) e h w f = clash h.0 f
+stop_waits : (text : List ℕ) (at n : ℕ) (t : List ℕ) (r : Listed) (end : List ℕ) (o : Read (List Wait)) → times n read_wait (drop at text) ≡ o → WaitsRead text t r end o → r.at ≤ length text → r.ok ≡ false → Outcome text (times n read_wait (drop at text)) false [] r.at
+stop_waits text at n t r end (bad from) e h w f = record { reads = e ∙ ap bad h.1; within = w }
+stop_waits text at n t r end (good ws rest) e h w f = clash h.0 f
 
-pub waits-bad : (text : List ℕ) (at n : ℕ) (t : List ℕ) (r : Listed) (end : List ℕ) → ReadWaits text at n t r end → r.ok ≡ false → Outcome text (times n readWait (drop at text)) false [] r.at
-waits-bad text at n t r end h f = stop-waits text at n t r end (times n readWait (drop at text)) refl h.waits h.within f
+pub waits_bad : (text : List ℕ) (at n : ℕ) (t : List ℕ) (r : Listed) (end : List ℕ) → ReadWaits text at n t r end → r.ok ≡ false → Outcome text (times n read_wait (drop at text)) false [] r.at
+waits_bad text at n t r end h f = stop_waits text at n t r end (times n read_wait (drop at text)) refl h.waits h.within f
 
 nothing : Lines
 nothing = record { next = 0; objects = []; waits = []; sum = 0 }
 
-pub all-stop : (text t end : List ℕ) (e : ℕ) {l : Lines} → Outcome text (readSnapshot text) false l e → ReadAll text t (record { ok = false; at = e; fine = false }) end
-all-stop text t end e h = record { lines = rw h.reads (refl, refl); within = h.within }
+pub all_stop : (text t end : List ℕ) (e : ℕ) {l : Lines} → Outcome text (read_snapshot text) false l e → ReadAll text t (record { ok = false; at = e; fine = false }) end
+all_stop text t end e h = record { lines = rw h.reads (refl, refl); within = h.within }
 
 four : (a b c d : Bool) → (((a && b) && c) && d) ≡ all_of (a ∷ b ∷ c ∷ d ∷ [])
 unfolding all_of
@@ -85,72 +85,72 @@ ended text p h = let l = length-drop p text in same_tests (eqb p (length text)) 
     (λ t. let e = eqb-true p (length text) t in eq-eqb (length (drop p text)) 0 (omega arith)) (λ t. let e = eqb-true (length (drop p text)) 0 t in eq-eqb p (length text) (omega arith))
 
 -- STAGE BY STAGE
-module _ (text t₀ end : List ℕ) {ok₁ : Bool} {a₁ p₁ : ℕ} (n : Outcome text (numberLine "next=" 1 never text) ok₁ a₁ p₁) where
-  pub stop-1 : ok₁ ≡ false → ReadAll text t₀ (record { ok = false; at = p₁; fine = false }) end
-  unfolding readSnapshot
-  stop-1 f = all-stop text t₀ end p₁ (seq-stop text (numberLine "next=" 1 never) _ text n nothing f)
+module _ (text t₀ end : List ℕ) {ok₁ : Bool} {a₁ p₁ : ℕ} (n : Outcome text (number_line "next=" 1 never text) ok₁ a₁ p₁) where
+  pub stop_1 : ok₁ ≡ false → ReadAll text t₀ (record { ok = false; at = p₁; fine = false }) end
+  unfolding read_snapshot
+  stop_1 f = all_stop text t₀ end p₁ (seq_stop text (number_line "next=" 1 never) _ text n nothing f)
 
-  module _ (y₁ : ok₁ ≡ true) {ok₂ : Bool} {a₂ p₂ : ℕ} (k : Outcome text (numberLine "objects=" 0 objectPlaces (drop p₁ text)) ok₂ a₂ p₂) where
-    pub stop-2 : ok₂ ≡ false → ReadAll text t₀ (record { ok = false; at = p₂; fine = false }) end
-    unfolding readSnapshot
-    stop-2 f = all-stop text t₀ end p₂ (seq_on text (numberLine "next=" 1 never) _ text n y₁ (seq-stop text (numberLine "objects=" 0 objectPlaces) _ (drop p₁ text) k nothing f))
+  module _ (y₁ : ok₁ ≡ true) {ok₂ : Bool} {a₂ p₂ : ℕ} (k : Outcome text (number_line "objects=" 0 object_places (drop p₁ text)) ok₂ a₂ p₂) where
+    pub stop_2 : ok₂ ≡ false → ReadAll text t₀ (record { ok = false; at = p₂; fine = false }) end
+    unfolding read_snapshot
+    stop_2 f = all_stop text t₀ end p₂ (seq_on text (number_line "next=" 1 never) _ text n y₁ (seq_stop text (number_line "objects=" 0 object_places) _ (drop p₁ text) k nothing f))
 
     module _ (y₂ : ok₂ ≡ true) (ro : Listed) (t₁ : List ℕ) (O : ReadObjects text p₂ a₂ (set t₀ 0 a₁) ro t₁) where
-      pub stop-3 : ro.ok ≡ false → ReadAll text t₀ (record { ok = false; at = ro.at; fine = false }) end
-      unfolding readSnapshot
-      stop-3 f = all-stop text t₀ end ro.at (seq_on text (numberLine "next=" 1 never) _ text n y₁ (seq_on text (numberLine "objects=" 0 objectPlaces) _ (drop p₁ text) k y₂
-          (seq-stop text (times a₂ readObject) _ (drop p₂ text) (objects-bad text p₂ a₂ (set t₀ 0 a₁) ro t₁ O f) nothing refl)))
+      pub stop_3 : ro.ok ≡ false → ReadAll text t₀ (record { ok = false; at = ro.at; fine = false }) end
+      unfolding read_snapshot
+      stop_3 f = all_stop text t₀ end ro.at (seq_on text (number_line "next=" 1 never) _ text n y₁ (seq_on text (number_line "objects=" 0 object_places) _ (drop p₁ text) k y₂
+          (seq_stop text (times a₂ read_object) _ (drop p₂ text) (objects_bad text p₂ a₂ (set t₀ 0 a₁) ro t₁ O f) nothing refl)))
 
-      module _ (y₃ : ro.ok ≡ true) {ok₄ : Bool} {a₄ p₄ : ℕ} (m : Outcome text (numberLine "waits=" 0 waitPlaces (drop ro.at text)) ok₄ a₄ p₄) where
-        listed-objects : Objects text p₂ a₂ (set t₀ 0 a₁) ro t₁
-        listed-objects = objects-good text p₂ a₂ (set t₀ 0 a₁) ro t₁ O y₃
+      module _ (y₃ : ro.ok ≡ true) {ok₄ : Bool} {a₄ p₄ : ℕ} (m : Outcome text (number_line "waits=" 0 wait_places (drop ro.at text)) ok₄ a₄ p₄) where
+        listed_objects : Objects text p₂ a₂ (set t₀ 0 a₁) ro t₁
+        listed_objects = objects_good text p₂ a₂ (set t₀ 0 a₁) ro t₁ O y₃
 
-        pub stop-4 : ok₄ ≡ false → ReadAll text t₀ (record { ok = false; at = p₄; fine = false }) end
-        unfolding readSnapshot
-        stop-4 f = all-stop text t₀ end p₄ (seq_on text (numberLine "next=" 1 never) _ text n y₁ (seq_on text (numberLine "objects=" 0 objectPlaces) _ (drop p₁ text) k y₂
-            (seq_on text (times a₂ readObject) _ (drop p₂ text) listed-objects.reads refl (seq-stop text (numberLine "waits=" 0 waitPlaces) _ (drop ro.at text) m nothing f))))
+        pub stop_4 : ok₄ ≡ false → ReadAll text t₀ (record { ok = false; at = p₄; fine = false }) end
+        unfolding read_snapshot
+        stop_4 f = all_stop text t₀ end p₄ (seq_on text (number_line "next=" 1 never) _ text n y₁ (seq_on text (number_line "objects=" 0 object_places) _ (drop p₁ text) k y₂
+            (seq_on text (times a₂ read_object) _ (drop p₂ text) listed_objects.reads refl (seq_stop text (number_line "waits=" 0 wait_places) _ (drop ro.at text) m nothing f))))
 
         module _ (y₄ : ok₄ ≡ true) (rq : Listed) (t₂ : List ℕ) (W : ReadWaits text p₄ a₄ t₁ rq t₂) where
-          pub stop-5 : rq.ok ≡ false → ReadAll text t₀ (record { ok = false; at = rq.at; fine = false }) end
-          unfolding readSnapshot
-          stop-5 f = all-stop text t₀ end rq.at (seq_on text (numberLine "next=" 1 never) _ text n y₁ (seq_on text (numberLine "objects=" 0 objectPlaces) _ (drop p₁ text) k y₂
-              (seq_on text (times a₂ readObject) _ (drop p₂ text) listed-objects.reads refl (seq_on text (numberLine "waits=" 0 waitPlaces) _ (drop ro.at text) m y₄
-              (seq-stop text (times a₄ readWait) _ (drop p₄ text) (waits-bad text p₄ a₄ t₁ rq t₂ W f) nothing refl)))))
+          pub stop_5 : rq.ok ≡ false → ReadAll text t₀ (record { ok = false; at = rq.at; fine = false }) end
+          unfolding read_snapshot
+          stop_5 f = all_stop text t₀ end rq.at (seq_on text (number_line "next=" 1 never) _ text n y₁ (seq_on text (number_line "objects=" 0 object_places) _ (drop p₁ text) k y₂
+              (seq_on text (times a₂ read_object) _ (drop p₂ text) listed_objects.reads refl (seq_on text (number_line "waits=" 0 wait_places) _ (drop ro.at text) m y₄
+              (seq_stop text (times a₄ read_wait) _ (drop p₄ text) (waits_bad text p₄ a₄ t₁ rq t₂ W f) nothing refl)))))
 
-          module _ (y₅ : rq.ok ≡ true) {ok₆ : Bool} {a₆ p₆ : ℕ} (u : Outcome text (number32Line "sum=" (drop rq.at text)) ok₆ a₆ p₆) where
-            listed-waits : Waits text p₄ a₄ t₁ rq t₂
-            listed-waits = waits-good text p₄ a₄ t₁ rq t₂ W y₅
+          module _ (y₅ : rq.ok ≡ true) {ok₆ : Bool} {a₆ p₆ : ℕ} (u : Outcome text (number32_line "sum=" (drop rq.at text)) ok₆ a₆ p₆) where
+            listed_waits : Waits text p₄ a₄ t₁ rq t₂
+            listed_waits = waits_good text p₄ a₄ t₁ rq t₂ W y₅
 
             lines : Lines
-            lines = record { next = a₁; objects = listed-objects.os; waits = listed-waits.ws; sum = a₆ }
+            lines = record { next = a₁; objects = listed_objects.os; waits = listed_waits.ws; sum = a₆ }
 
-            all_read : Outcome text (readSnapshot text) ok₆ lines p₆
-            unfolding readSnapshot lines
-            all_read = seq_on text (numberLine "next=" 1 never) _ text n y₁ (seq_on text (numberLine "objects=" 0 objectPlaces) _ (drop p₁ text) k y₂
-                (seq_on text (times a₂ readObject) _ (drop p₂ text) listed-objects.reads refl (seq_on text (numberLine "waits=" 0 waitPlaces) _ (drop ro.at text) m y₄
-                (seq_on text (times a₄ readWait) _ (drop p₄ text) listed-waits.reads refl
-                (seq-last text (number32Line "sum=") (λ z. record { next = a₁; objects = listed-objects.os; waits = listed-waits.ws; sum = z }) (drop rq.at text) u)))))
+            all_read : Outcome text (read_snapshot text) ok₆ lines p₆
+            unfolding read_snapshot lines
+            all_read = seq_on text (number_line "next=" 1 never) _ text n y₁ (seq_on text (number_line "objects=" 0 object_places) _ (drop p₁ text) k y₂
+                (seq_on text (times a₂ read_object) _ (drop p₂ text) listed_objects.reads refl (seq_on text (number_line "waits=" 0 wait_places) _ (drop ro.at text) m y₄
+                (seq_on text (times a₄ read_wait) _ (drop p₄ text) listed_waits.reads refl
+                (seq_last text (number32_line "sum=") (λ z. record { next = a₁; objects = listed_objects.os; waits = listed_waits.ws; sum = z }) (drop rq.at text) u)))))
 
-            pub stop-6 : ok₆ ≡ false → ReadAll text t₀ (record { ok = false; at = p₆; fine = false }) end
-            stop-6 f = all-stop text t₀ end p₆ (subst (λ (b : Bool). Outcome text (readSnapshot text) b lines p₆) f all_read)
+            pub stop_6 : ok₆ ≡ false → ReadAll text t₀ (record { ok = false; at = p₆; fine = false }) end
+            stop_6 f = all_stop text t₀ end p₆ (subst (λ (b : Bool). Outcome text (read_snapshot text) b lines p₆) f all_read)
 
             module _ (y₆ : ok₆ ≡ true) where
-              read-well : readSnapshot text ≡ good lines (drop p₆ text)
-              read-well = all_read.reads ∙ ap (λ (b : Bool). outcome text b lines p₆) y₆
+              read_well : read_snapshot text ≡ good lines (drop p₆ text)
+              read_well = all_read.reads ∙ ap (λ (b : Bool). outcome text b lines p₆) y₆
 
-              before-sum : take rq.at text ≡ bodyText lines
+              before_sum : take rq.at text ≡ body_text lines
               unfolding lines
-              before-sum = let tail : List ℕ = line "sum=" a₆ ++ drop p₆ text in
-                  let g : number32Line "sum=" (drop rq.at text) ≡ good a₆ (drop p₆ text) = rw y₆ at u.reads in
-                  let d : drop rq.at text ≡ tail = ((number-exact "sum=" 0 (word32 - 1)).exact (drop rq.at text) a₆ (drop p₆ text) g).0 in
-                  let w : text ≡ (bodyText lines ++ line "sum=" a₆) ++ drop p₆ text = (snapshot-exact.exact text lines (drop p₆ text) read-well).0 in
-                  append_cancel_right (take rq.at text) (bodyText lines) tail
-                  (ap (λ (l : List ℕ). take rq.at text ++ l) (sym d) ∙ (take-append-drop rq.at text ∙ (w ∙ append_assoc (bodyText lines) (line "sum=" a₆) (drop p₆ text))))
+              before_sum = let tail : List ℕ = line "sum=" a₆ ++ drop p₆ text in
+                  let g : number32_line "sum=" (drop rq.at text) ≡ good a₆ (drop p₆ text) = rw y₆ at u.reads in
+                  let d : drop rq.at text ≡ tail = ((number_exact "sum=" 0 (word32 - 1)).exact (drop rq.at text) a₆ (drop p₆ text) g).0 in
+                  let w : text ≡ (body_text lines ++ line "sum=" a₆) ++ drop p₆ text = (snapshot_exact.exact text lines (drop p₆ text) read_well).0 in
+                  append_cancel_right (take rq.at text) (body_text lines) tail
+                  (ap (λ (l : List ℕ). take rq.at text ++ l) (sym d) ∙ (take-append-drop rq.at text ∙ (w ∙ append_assoc (body_text lines) (line "sum=" a₆) (drop p₆ text))))
 
-              in_order : {sum : ℕ} → sum ≡ byteSum (take rq.at text) % word32 → (((ro.rising && rq.rising) && eqb a₆ sum) && eqb p₆ (length text)) ≡ inOrder lines (drop p₆ text)
+              in_order : {sum : ℕ} → sum ≡ byte_sum (take rq.at text) % word32 → (((ro.rising && rq.rising) && eqb a₆ sum) && eqb p₆ (length text)) ≡ in_order lines (drop p₆ text)
               unfolding lines
-              in_order {sum} e = join4 listed-objects.order listed-waits.order (ap (eqb a₆) (e ∙ ap (λ (x : List ℕ). byteSum x % word32) before-sum)) (ended text p₆ u.within)
+              in_order {sum} e = join4 listed_objects.order listed_waits.order (ap (eqb a₆) (e ∙ ap (λ (x : List ℕ). byte_sum x % word32) before_sum)) (ended text p₆ u.within)
 
-              pub all-good : (sum : ℕ) → sum ≡ byteSum (take rq.at text) % word32 → ReadAll text t₀ (record { ok = true; at = p₆; fine = ((ro.rising && rq.rising) && eqb a₆ sum) && eqb p₆ (length text) }) t₂
+              pub all_good : (sum : ℕ) → sum ≡ byte_sum (take rq.at text) % word32 → ReadAll text t₀ (record { ok = true; at = p₆; fine = ((ro.rising && rq.rising) && eqb a₆ sum) && eqb p₆ (length text) }) t₂
               unfolding lines
-              all-good sum e = record { lines = rw read-well (refl, listed-waits.kept ∙ ap (λ (t : List ℕ). queuedFrom t 0 listed-waits.ws) listed-objects.kept, in_order e); within = u.within }
+              all_good sum e = record { lines = rw read_well (refl, listed_waits.kept ∙ ap (λ (t : List ℕ). queued_from t 0 listed_waits.ws) listed_objects.kept, in_order e); within = u.within }

@@ -1,11 +1,11 @@
 // A snapshot's lines read back, at a position of a lent text, and stored into tables as they are read.
 ghost use Rattle.std.specs.Prelude.{◌≡◌, true, false, ◌≤◌, length, drop, take};
-ghost use Rattle.model.specs.Sizes.{objectPlaces, waitPlaces, maxListed};
+ghost use Rattle.model.specs.Sizes.{object_places, wait_places, max_listed};
 ghost use Rattle.model.specs.Calls.{aSemaphore, aMutex, anEvent};
-ghost use Rattle.model.specs.Layout.{tableLength};
-ghost use Rattle.model.specs.Reading.{times, numberLine, word_line};
+ghost use Rattle.model.specs.Layout.{table_length};
+ghost use Rattle.model.specs.Reading.{times, number_line, word_line};
 ghost use Rattle.lines.specs.Outcome.{Outcome};
-ghost use Rattle.reader.specs.Contracts.{kindWords, kind_of, ReadValues, ReadObject, ReadObjects, ReadWait, ReadWaits, ReadAll};
+ghost use Rattle.reader.specs.Values.{kind_words, kind_of, ReadValues, ReadObject, ReadObjects, ReadWait, ReadWaits, ReadAll};
 
 use kinds::{Event, Mutex, Object, Semaphore};
 use lines::{Line, begins, either, number_line};
@@ -67,7 +67,7 @@ fn semaphore_values(text: &[u8], at: usize) -> Values
 
 pub fn read_list(text: &[u8], at: usize, n: usize, list: &mut [u64]) -> Line
     requires { (at ≤ length text.now) × (n ≤ length list.old) }
-    ensures { Outcome text.now (times n (numberLine "obj=" 1 objectPlaces) (drop at text.now)) result.ok (take n list.new) result.at }
+    ensures { Outcome text.now (times n (number_line "obj=" 1 object_places) (drop at text.now)) result.ok (take n list.new) result.at }
 {
     let mut pos = at;
     let mut i: usize = 0;
@@ -136,7 +136,7 @@ fn event_values(text: &[u8], at: usize) -> Values
 // The kind's number: 1 semaphore, 2 mutex, 3 event.
 fn kind_line(text: &[u8], at: usize) -> Line
     requires { at ≤ length text.now }
-    ensures { (Outcome text.now (word_line kindWords (drop at text.now)) result.ok (kind_of result.value) result.at) × (result.ok ≡ true → (1 ≤ result.value) × (result.value ≤ 3)) }
+    ensures { (Outcome text.now (word_line kind_words (drop at text.now)) result.ok (kind_of result.value) result.at) × (result.ok ≡ true → (1 ≤ result.value) × (result.value ≤ 3)) }
 {
     let semaphore = begins(text, at, b"kind=sem\n");
     if semaphore {
@@ -243,7 +243,7 @@ pub struct Listed {
 }
 
 pub fn read_objects(text: &[u8], at: usize, n: u64, t: &mut [u64]) -> Listed
-    requires { (at ≤ length text.now) × (length t.old ≡ tableLength) }
+    requires { (at ≤ length text.now) × (length t.old ≡ table_length) }
     ensures { ReadObjects text.now at n t.old result t.new }
 {
     let mut pos = at;
@@ -337,7 +337,7 @@ fn with_list(
 }
 
 pub fn read_wait(text: &[u8], at: usize, list: &mut [u64]) -> Header
-    requires { (at ≤ length text.now) × (length list.old ≡ maxListed) }
+    requires { (at ≤ length text.now) × (length list.old ≡ max_listed) }
     ensures { ReadWait text.now at result list.new }
 {
     let t = number_line(text, at, b"wait=", 1, MAX_64);
@@ -376,7 +376,7 @@ pub fn read_wait(text: &[u8], at: usize, list: &mut [u64]) -> Header
 // ---- as many waits as counted, at the lowest places in their order; whether their tickets rise
 
 pub fn read_waits(text: &[u8], at: usize, n: usize, t: &mut [u64]) -> Listed
-    requires { (at ≤ length text.now) × (length t.old ≡ tableLength) × (n ≤ waitPlaces) }
+    requires { (at ≤ length text.now) × (length t.old ≡ table_length) × (n ≤ wait_places) }
     ensures { ReadWaits text.now at n t.old result t.new }
 {
     let mut pos = at;
@@ -438,7 +438,7 @@ fn wide(sum: u32) -> u64
 }
 
 pub fn read_snapshot(text: &[u8], t: &mut [u64]) -> Parsed
-    requires { length t.old ≡ tableLength }
+    requires { length t.old ≡ table_length }
     ensures { ReadAll text.now t.old result t.new }
 {
     let next = number_line(text, 0, b"next=", 1, MAX_64);

@@ -1,14 +1,14 @@
 // The calls that wake: an object's change is stored and the walk follows; and expire. Valid tables and a long enough wake list
 // are asked for: the public calls have tested both.
 ghost use Rattle.std.specs.Prelude.{◌≡◌, true, [], ◌≤◌, length};
-ghost use Rattle.model.specs.Sizes.{wakeLength};
-ghost use Rattle.model.specs.Layout.{tableLength};
-ghost use Rattle.model.specs.Calls.{wakeLent, post, unlock, kill, setEvent, pulseEvent};
+ghost use Rattle.model.specs.Sizes.{wake_length};
+ghost use Rattle.model.specs.Layout.{table_length};
+ghost use Rattle.model.specs.Calls.{wake_lent, post, unlock, kill, setEvent, pulseEvent};
 ghost use Rattle.cells.specs.Objects.{named};
-ghost use Rattle.cells.specs.Validity.{validCells};
-ghost use Rattle.cells.specs.Calls.{signalOn, expireOn};
-ghost use Rattle.kinds.specs.Values.{changeOf};
-ghost use Rattle.signals.specs.Values.{leftBy, applied};
+ghost use Rattle.cells.specs.Validity.{valid_cells};
+ghost use Rattle.cells.specs.Calls.{signal_on, expire_on};
+ghost use Rattle.kinds.specs.Values.{change_of};
+ghost use Rattle.signals.specs.Values.{left_by, applied};
 
 use kinds::Change;
 
@@ -23,8 +23,8 @@ pub struct Changed {
 
 // A refused change alters nothing. Any other is stored, and the walk follows.
 fn apply(t: &mut [u64], wake: &mut [u64], h: u64, previous: u32, c: Change) -> Changed
-    requires { (length t.old ≡ tableLength) × (wakeLength ≤ length wake.old) }
-    ensures { leftBy result t.new wake.new ≡ applied (changeOf c) previous h t.old wake.old }
+    requires { (length t.old ≡ table_length) × (wake_length ≤ length wake.old) }
+    ensures { left_by result t.new wake.new ≡ applied (change_of c) previous h t.old wake.old }
 {
     if c.answer != 0 {
         return Changed {
@@ -44,8 +44,8 @@ fn apply(t: &mut [u64], wake: &mut [u64], h: u64, previous: u32, c: Change) -> C
 }
 
 pub fn post(t: &mut [u64], wake: &mut [u64], h: u64, add: u64) -> Changed
-    requires { (length t.old ≡ tableLength) × (validCells t.old ≡ true) × (wakeLength ≤ length wake.old) }
-    ensures { leftBy result t.new wake.new ≡ signalOn (post add) h (named t.old h) t.old (wakeLent wake.old) }
+    requires { (length t.old ≡ table_length) × (valid_cells t.old ≡ true) × (wake_length ≤ length wake.old) }
+    ensures { left_by result t.new wake.new ≡ signal_on (post add) h (named t.old h) t.old (wake_lent wake.old) }
 {
     let o = tables::named(t, h);
     let previous = o.count as u32;
@@ -54,8 +54,8 @@ pub fn post(t: &mut [u64], wake: &mut [u64], h: u64, add: u64) -> Changed
 }
 
 pub fn unlock(t: &mut [u64], wake: &mut [u64], h: u64, asking: u64) -> Changed
-    requires { (length t.old ≡ tableLength) × (validCells t.old ≡ true) × (wakeLength ≤ length wake.old) }
-    ensures { leftBy result t.new wake.new ≡ signalOn (unlock asking) h (named t.old h) t.old (wakeLent wake.old) }
+    requires { (length t.old ≡ table_length) × (valid_cells t.old ≡ true) × (wake_length ≤ length wake.old) }
+    ensures { left_by result t.new wake.new ≡ signal_on (unlock asking) h (named t.old h) t.old (wake_lent wake.old) }
 {
     let o = tables::named(t, h);
     let previous = o.count as u32;
@@ -64,8 +64,8 @@ pub fn unlock(t: &mut [u64], wake: &mut [u64], h: u64, asking: u64) -> Changed
 }
 
 pub fn kill(t: &mut [u64], wake: &mut [u64], h: u64, asking: u64) -> Changed
-    requires { (length t.old ≡ tableLength) × (wakeLength ≤ length wake.old) }
-    ensures { leftBy result t.new wake.new ≡ signalOn (kill asking) h (named t.old h) t.old (wakeLent wake.old) }
+    requires { (length t.old ≡ table_length) × (wake_length ≤ length wake.old) }
+    ensures { left_by result t.new wake.new ≡ signal_on (kill asking) h (named t.old h) t.old (wake_lent wake.old) }
 {
     let o = tables::named(t, h);
     let c = o.kill(asking);
@@ -73,8 +73,8 @@ pub fn kill(t: &mut [u64], wake: &mut [u64], h: u64, asking: u64) -> Changed
 }
 
 pub fn set(t: &mut [u64], wake: &mut [u64], h: u64) -> Changed
-    requires { (length t.old ≡ tableLength) × (validCells t.old ≡ true) × (wakeLength ≤ length wake.old) }
-    ensures { leftBy result t.new wake.new ≡ signalOn setEvent h (named t.old h) t.old (wakeLent wake.old) }
+    requires { (length t.old ≡ table_length) × (valid_cells t.old ≡ true) × (wake_length ≤ length wake.old) }
+    ensures { left_by result t.new wake.new ≡ signal_on setEvent h (named t.old h) t.old (wake_lent wake.old) }
 {
     let o = tables::named(t, h);
     let previous = o.count as u32;
@@ -84,8 +84,8 @@ pub fn set(t: &mut [u64], wake: &mut [u64], h: u64) -> Changed
 
 // As set; then the event is cleared, whoever took it.
 pub fn pulse(t: &mut [u64], wake: &mut [u64], h: u64) -> Changed
-    requires { (length t.old ≡ tableLength) × (validCells t.old ≡ true) × (wakeLength ≤ length wake.old) }
-    ensures { leftBy result t.new wake.new ≡ signalOn pulseEvent h (named t.old h) t.old (wakeLent wake.old) }
+    requires { (length t.old ≡ table_length) × (valid_cells t.old ≡ true) × (wake_length ≤ length wake.old) }
+    ensures { left_by result t.new wake.new ≡ signal_on pulseEvent h (named t.old h) t.old (wake_lent wake.old) }
 {
     let r = set(t, wake, h);
     if r.answer != 0 {
@@ -99,8 +99,8 @@ pub fn pulse(t: &mut [u64], wake: &mut [u64], h: u64) -> Changed
 
 // Clocks 0 and 1 are known.
 pub fn expire(t: &mut [u64], wake: &mut [u64], clock: u64, time: u64) -> Changed
-    requires { (length t.old ≡ tableLength) × (wakeLength ≤ length wake.old) }
-    ensures { leftBy result t.new wake.new ≡ expireOn clock time t.old (wakeLent wake.old) }
+    requires { (length t.old ≡ table_length) × (wake_length ≤ length wake.old) }
+    ensures { left_by result t.new wake.new ≡ expire_on clock time t.old (wake_lent wake.old) }
 {
     if 1 < clock {
         return Changed {

@@ -1,11 +1,11 @@
 // The snapshot's writer (01: the picture): objects by handle, waits by ticket. Each function asks for room for its text: the
 // public call has tested the buffer, and no snapshot of valid tables is longer (crates/model/proofs/SnapshotLength.antt).
 ghost use Rattle.std.specs.Prelude.{◌≡◌, cond, ◌<◌, ◌≤◌, length, eqb};
-ghost use Rattle.model.specs.Sizes.{objectPlaces, waitPlaces};
-ghost use Rattle.model.specs.Layout.{tableLength};
+ghost use Rattle.model.specs.Sizes.{object_places, wait_places};
+ghost use Rattle.model.specs.Layout.{table_length};
 ghost use Rattle.model.specs.Basics.{bit};
 ghost use Rattle.model.specs.Snapshot.{line};
-ghost use Rattle.cells.specs.Snapshot.{semaphoreText, mutexText, eventText, fieldsText, objectsTextBelow, objectTotal, waitTotal, modeTextOf, clockTextOf, listTextBelow, waitLines, waitTextAt, waitsTextFrom, body_of, snapshotOf};
+ghost use Rattle.cells.specs.Snapshot.{semaphore_text, mutex_text, event_text, fields_text, objects_text_below, object_total, wait_total, mode_text_of, clock_text_of, list_text_below, wait_lines, wait_text_at, waits_text_from, body_of, snapshot_of};
 ghost use Rattle.decimal.specs.Text.{Room, Wrote};
 ghost use Rattle.kinds.specs.Values.{cells_of};
 
@@ -24,8 +24,8 @@ fn one_if(b: bool) -> u64
 }
 
 fn put_semaphore(buf: &mut [u8], at: usize, h: u64, o: Object) -> usize
-    requires { Room buf.old at (semaphoreText h (cells_of o)) }
-    ensures { Wrote buf.old at (semaphoreText h (cells_of o)) result buf.new }
+    requires { Room buf.old at (semaphore_text h (cells_of o)) }
+    ensures { Wrote buf.old at (semaphore_text h (cells_of o)) result buf.new }
 {
     let kind = put_line(buf, at, b"handle=", h);
     let count = put_text(buf, kind, b"kind=sem\n");
@@ -34,8 +34,8 @@ fn put_semaphore(buf: &mut [u8], at: usize, h: u64, o: Object) -> usize
 }
 
 fn put_mutex(buf: &mut [u8], at: usize, h: u64, o: Object) -> usize
-    requires { Room buf.old at (mutexText h (cells_of o)) }
-    ensures { Wrote buf.old at (mutexText h (cells_of o)) result buf.new }
+    requires { Room buf.old at (mutex_text h (cells_of o)) }
+    ensures { Wrote buf.old at (mutex_text h (cells_of o)) result buf.new }
 {
     let kind = put_line(buf, at, b"handle=", h);
     let owner = put_text(buf, kind, b"kind=mutex\n");
@@ -45,8 +45,8 @@ fn put_mutex(buf: &mut [u8], at: usize, h: u64, o: Object) -> usize
 }
 
 fn put_event(buf: &mut [u8], at: usize, h: u64, o: Object) -> usize
-    requires { Room buf.old at (eventText h (cells_of o)) }
-    ensures { Wrote buf.old at (eventText h (cells_of o)) result buf.new }
+    requires { Room buf.old at (event_text h (cells_of o)) }
+    ensures { Wrote buf.old at (event_text h (cells_of o)) result buf.new }
 {
     let kind = put_line(buf, at, b"handle=", h);
     let signaled = put_text(buf, kind, b"kind=event\n");
@@ -56,8 +56,8 @@ fn put_event(buf: &mut [u8], at: usize, h: u64, o: Object) -> usize
 
 // An empty place has no text.
 fn put_object(buf: &mut [u8], at: usize, h: u64, o: Object) -> usize
-    requires { Room buf.old at (fieldsText h (cells_of o)) }
-    ensures { Wrote buf.old at (fieldsText h (cells_of o)) result buf.new }
+    requires { Room buf.old at (fields_text h (cells_of o)) }
+    ensures { Wrote buf.old at (fields_text h (cells_of o)) result buf.new }
 {
     let kind = o.kind;
     if kind == Semaphore::KIND {
@@ -73,8 +73,8 @@ fn put_object(buf: &mut [u8], at: usize, h: u64, o: Object) -> usize
 }
 
 fn put_objects(buf: &mut [u8], at: usize, t: &[u64]) -> usize
-    requires { (length t.now ≡ tableLength) × Room buf.old at (objectsTextBelow t.now objectPlaces) }
-    ensures { Wrote buf.old at (objectsTextBelow t.now objectPlaces) result buf.new }
+    requires { (length t.now ≡ table_length) × Room buf.old at (objects_text_below t.now object_places) }
+    ensures { Wrote buf.old at (objects_text_below t.now object_places) result buf.new }
 {
     let mut end = at;
     let mut p: usize = 0;
@@ -87,8 +87,8 @@ fn put_objects(buf: &mut [u8], at: usize, t: &[u64]) -> usize
 }
 
 fn object_total(t: &[u64]) -> u64
-    requires { length t.now ≡ tableLength }
-    ensures { result ≡ objectTotal t.now }
+    requires { length t.now ≡ table_length }
+    ensures { result ≡ object_total t.now }
 {
     let mut total: u64 = 0;
     let mut p: usize = 0;
@@ -104,8 +104,8 @@ fn object_total(t: &[u64]) -> u64
 // ---- waits
 
 fn wait_total(t: &[u64]) -> u64
-    requires { length t.now ≡ tableLength }
-    ensures { result ≡ waitTotal t.now }
+    requires { length t.now ≡ table_length }
+    ensures { result ≡ wait_total t.now }
 {
     let mut total: u64 = 0;
     let mut p: usize = 0;
@@ -119,8 +119,8 @@ fn wait_total(t: &[u64]) -> u64
 }
 
 fn put_mode(buf: &mut [u8], at: usize, mode: u64) -> usize
-    requires { Room buf.old at (modeTextOf mode) }
-    ensures { Wrote buf.old at (modeTextOf mode) result buf.new }
+    requires { Room buf.old at (mode_text_of mode) }
+    ensures { Wrote buf.old at (mode_text_of mode) result buf.new }
 {
     if mode == 0 {
         return put_text(buf, at, b"mode=any\n");
@@ -129,8 +129,8 @@ fn put_mode(buf: &mut [u8], at: usize, mode: u64) -> usize
 }
 
 fn put_clock(buf: &mut [u8], at: usize, clock: u64) -> usize
-    requires { Room buf.old at (clockTextOf clock) }
-    ensures { Wrote buf.old at (clockTextOf clock) result buf.new }
+    requires { Room buf.old at (clock_text_of clock) }
+    ensures { Wrote buf.old at (clock_text_of clock) result buf.new }
 {
     if clock == 0 {
         return put_text(buf, at, b"clock=mono\n");
@@ -146,8 +146,8 @@ fn put_listed(buf: &mut [u8], at: usize, h: u64) -> usize
 }
 
 fn put_list(buf: &mut [u8], at: usize, list: &[u64]) -> usize
-    requires { Room buf.old at (listTextBelow list.now (length list.now)) }
-    ensures { Wrote buf.old at (listTextBelow list.now (length list.now)) result buf.new }
+    requires { Room buf.old at (list_text_below list.now (length list.now)) }
+    ensures { Wrote buf.old at (list_text_below list.now (length list.now)) result buf.new }
 {
     let mut end = at;
     let mut i: usize = 0;
@@ -170,8 +170,8 @@ fn put_lines(
     alert: u64,
     list: &[u64],
 ) -> usize
-    requires { Room buf.old at (waitLines ticket mode owner clock timeout alert list.now) }
-    ensures { Wrote buf.old at (waitLines ticket mode owner clock timeout alert list.now) result buf.new }
+    requires { Room buf.old at (wait_lines ticket mode owner clock timeout alert list.now) }
+    ensures { Wrote buf.old at (wait_lines ticket mode owner clock timeout alert list.now) result buf.new }
 {
     let n = list.len() as u64;
     let a = put_line(buf, at, b"wait=", ticket);
@@ -185,8 +185,8 @@ fn put_lines(
 }
 
 fn put_wait(buf: &mut [u8], at: usize, t: &[u64], p: usize) -> usize
-    requires { (p < waitPlaces) × (length t.now ≡ tableLength) × Room buf.old at (waitTextAt t.now p) }
-    ensures { Wrote buf.old at (waitTextAt t.now p) result buf.new }
+    requires { (p < wait_places) × (length t.now ≡ table_length) × Room buf.old at (wait_text_at t.now p) }
+    ensures { Wrote buf.old at (wait_text_at t.now p) result buf.new }
 {
     let ticket = tables::ticket_at(t, p);
     let mode = tables::mode_at(t, p);
@@ -200,8 +200,8 @@ fn put_wait(buf: &mut [u8], at: usize, t: &[u64], p: usize) -> usize
 
 // The waits, lowest ticket first.
 fn put_waits(buf: &mut [u8], at: usize, t: &[u64]) -> usize
-    requires { (length t.now ≡ tableLength) × Room buf.old at (waitsTextFrom waitPlaces t.now 0) }
-    ensures { Wrote buf.old at (waitsTextFrom waitPlaces t.now 0) result buf.new }
+    requires { (length t.now ≡ table_length) × Room buf.old at (waits_text_from wait_places t.now 0) }
+    ensures { Wrote buf.old at (waits_text_from wait_places t.now 0) result buf.new }
 {
     let mut end = at;
     let mut last: u64 = 0;
@@ -220,7 +220,7 @@ fn put_waits(buf: &mut [u8], at: usize, t: &[u64]) -> usize
 
 // All lines but the sum, from the buffer's front on; their length.
 fn write_body(buf: &mut [u8], t: &[u64]) -> usize
-    requires { (length t.now ≡ tableLength) × Room buf.old 0 (body_of t.now) }
+    requires { (length t.now ≡ table_length) × Room buf.old 0 (body_of t.now) }
     ensures { Wrote buf.old 0 (body_of t.now) result buf.new }
 {
     let next = tables::next_ticket(t);
@@ -241,8 +241,8 @@ fn wide(sum: u32) -> u64
 
 // The whole text, from the buffer's front on; its length.
 pub fn write(buf: &mut [u8], t: &[u64]) -> usize
-    requires { (length t.now ≡ tableLength) × Room buf.old 0 (snapshotOf t.now) }
-    ensures { Wrote buf.old 0 (snapshotOf t.now) result buf.new }
+    requires { (length t.now ≡ table_length) × Room buf.old 0 (snapshot_of t.now) }
+    ensures { Wrote buf.old 0 (snapshot_of t.now) result buf.new }
 {
     let end = write_body(buf, t);
     let sum = wide(byte_sum::byte_sum(&buf[..end]));

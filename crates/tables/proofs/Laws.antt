@@ -9,120 +9,120 @@ use lib.Seq.{take-suc, take-suc-set, take-length}
 use lib.Dec.{eqb, ltb, leb}
 use native.Mathlib.Numerals.{add-one}
 use borrow.Author.Tests.{lt-ltb, le-ltb, le-leb, lt-leb, eq-eqb, ne_eqb, eqb-false, ltb-true, ltb-false, leb-true}
-use Rattle.model.proofs.Logic.{byBool, clash, and_split}
-use Rattle.model.specs.Sizes.{objectPlaces, waitPlaces, maxListed}
-use Rattle.model.specs.Layout.{headerSize, waitSize, tableLength, inWait}
-use Rattle.cells.specs.Objects.{Fields, fields, noFields, objectCell, fields_at, putFields, isHandle, named, store}
-use Rattle.cells.specs.Fold.{foldBelow, orBelow, cellFrom}
-use Rattle.cells.specs.Waits.{nextTicket, waitCell, countAt, list_of, names_of}
-use Rattle.cells.specs.Calls.{putHeader, putList, queueCells, madeCells}
-use Rattle.cells.specs.Validity.{unusedZero, validFree}
-use Rattle.refine.proofs.Shapes.{or-all-zero, all_same}
+use Rattle.model.proofs.Logic.{by_bool, clash, and_split}
+use Rattle.model.specs.Sizes.{object_places, wait_places, max_listed}
+use Rattle.model.specs.Layout.{header_size, wait_size, table_length, in_wait}
+use Rattle.cells.specs.Objects.{Fields, fields, no_fields, object_cell, fields_at, put_fields, is_handle, named, store}
+use Rattle.cells.specs.Fold.{fold_below, or_below, cell_from}
+use Rattle.cells.specs.Waits.{next_ticket, wait_cell, count_at, list_of, names_of}
+use Rattle.cells.specs.Calls.{put_header, put_list, queue_cells, made_cells}
+use Rattle.cells.specs.Validity.{unused_zero, valid_free}
+use Rattle.refine.proofs.Shapes.{or_all_zero, all_same}
 use Rattle.refine.proofs.Validity.{list_length, list_at}
 
 -- a handle or not
 module _ (h : ℕ) where
-  pub handle-low : isHandle h ≡ true → (0 < h) × (h ≤ objectPlaces)
-  handle-low e = let r = and_split (ltb 0 h) (leb h objectPlaces) e in (ltb-true 0 h r.0, leb-true h objectPlaces r.1)
+  pub handle_low : is_handle h ≡ true → (0 < h) × (h ≤ object_places)
+  handle_low e = let r = and_split (ltb 0 h) (leb h object_places) e in (ltb-true 0 h r.0, leb-true h object_places r.1)
 
-  some-handle : isHandle h ≡ true → (eqb h 0 ≡ false) × (ltb objectPlaces h ≡ false)
-  some-handle e = let r = handle-low e in (ne_eqb h 0 (λ z. let w : ⊥ = omega (arith, r.0) in w), le-ltb objectPlaces h r.1)
+  some_handle : is_handle h ≡ true → (eqb h 0 ≡ false) × (ltb object_places h ≡ false)
+  some_handle e = let r = handle_low e in (ne_eqb h 0 (λ z. let w : ⊥ = omega (arith, r.0) in w), le-ltb object_places h r.1)
 
-  no-handle : isHandle h ≡ false → (eqb h 0 || ltb objectPlaces h) ≡ true
-  no-handle e = byBool (eqb h 0) (λ y. rw y) (λ n. rw n (byBool (ltb objectPlaces h) (λ y. y)
-      (λ m. let a = eqb-false h 0 n in let p : ltb 0 h ≡ true = lt-ltb 0 h (omega arith) in let q : leb h objectPlaces ≡ true = le-leb h objectPlaces (ltb-false objectPlaces h m) in clash (let z : isHandle h ≡ true = rw (p, q) in z) e)))
+  no_handle : is_handle h ≡ false → (eqb h 0 || ltb object_places h) ≡ true
+  no_handle e = by_bool (eqb h 0) (λ y. rw y) (λ n. rw n (by_bool (ltb object_places h) (λ y. y)
+      (λ m. let a = eqb-false h 0 n in let p : ltb 0 h ≡ true = lt-ltb 0 h (omega arith) in let q : leb h object_places ≡ true = le-leb h object_places (ltb-false object_places h m) in clash (let z : is_handle h ≡ true = rw (p, q) in z) e)))
 
 neither : {A : Type 0} (a b : Bool) (x y : A) → (a || b) ≡ true → x ≡ cond a x (cond b x y)
 neither true b x y e = refl
 neither false true x y e = refl
 neither false false x y e = clash e refl
 
-module _ (t : List ℕ) (h : ℕ) {b : Bool} (e : b ≡ isHandle h) where
-  pub named-at : b ≡ true → fields_at t (h - 1) ≡ named t h
+module _ (t : List ℕ) (h : ℕ) {b : Bool} (e : b ≡ is_handle h) where
+  pub named_at : b ≡ true → fields_at t (h - 1) ≡ named t h
   unfolding named
-  named-at y = let r = some-handle h (sym e ∙ y) in rw (r.0, r.1)
+  named_at y = let r = some_handle h (sym e ∙ y) in rw (r.0, r.1)
 
-  pub named_none : b ≡ false → noFields ≡ named t h
+  pub named_none : b ≡ false → no_fields ≡ named t h
   unfolding named
-  named_none n = neither (eqb h 0) (ltb objectPlaces h) noFields (fields_at t (h - 1)) (no-handle h (sym e ∙ n))
+  named_none n = neither (eqb h 0) (ltb object_places h) no_fields (fields_at t (h - 1)) (no_handle h (sym e ∙ n))
 
-  pub store_at : (x : Fields) → b ≡ true → putFields t (h - 1) x ≡ store t h x
+  pub store_at : (x : Fields) → b ≡ true → put_fields t (h - 1) x ≡ store t h x
   unfolding store
-  store_at x y = let r = some-handle h (sym e ∙ y) in rw (r.0, r.1)
+  store_at x y = let r = some_handle h (sym e ∙ y) in rw (r.0, r.1)
 
-  pub store-none : (x : Fields) → b ≡ false → t ≡ store t h x
+  pub store_none : (x : Fields) → b ≡ false → t ≡ store t h x
   unfolding store
-  store-none x n = neither (eqb h 0) (ltb objectPlaces h) t (putFields t (h - 1) x) (no-handle h (sym e ∙ n))
+  store_none x n = neither (eqb h 0) (ltb object_places h) t (put_fields t (h - 1) x) (no_handle h (sym e ∙ n))
 
-pub fields-at : (t : List ℕ) (p : ℕ) → fields (get_or t (objectCell p) 0) (get_or t (objectCell p + 1) 0) (get_or t (objectCell p + 2) 0) (get_or t (objectCell p + 3) 0) ≡ fields_at t p
+pub fields_at_lem : (t : List ℕ) (p : ℕ) → fields (get_or t (object_cell p) 0) (get_or t (object_cell p + 1) 0) (get_or t (object_cell p + 2) 0) (get_or t (object_cell p + 3) 0) ≡ fields_at t p
 unfolding fields_at
-fields-at t p = let z : objectCell p + 0 ≡ objectCell p = omega arith in rw z
+fields_at_lem t p = let z : object_cell p + 0 ≡ object_cell p = omega arith in rw z
 
 -- a list stays within its place
-pub count-is : (t : List ℕ) (p : ℕ) {n : ℕ} → n ≡ inWait t p 5 → n ≤ maxListed → n ≡ countAt t p
-unfolding countAt
-count-is t p {n} e l = rw (sym e, le-leb n maxListed l)
+pub count_is : (t : List ℕ) (p : ℕ) {n : ℕ} → n ≡ in_wait t p 5 → n ≤ max_listed → n ≡ count_at t p
+unfolding count_at
+count_is t p {n} e l = rw (sym e, le-leb n max_listed l)
 
-pub count_none : (t : List ℕ) (p : ℕ) {n : ℕ} → n ≡ inWait t p 5 → maxListed < n → 0 ≡ countAt t p
-unfolding countAt
-count_none t p {n} e l = rw (sym e, lt-leb n maxListed l)
+pub count_none : (t : List ℕ) (p : ℕ) {n : ℕ} → n ≡ in_wait t p 5 → max_listed < n → 0 ≡ count_at t p
+unfolding count_at
+count_none t p {n} e l = rw (sym e, lt-leb n max_listed l)
 
-cond-le : (n m : ℕ) (b : Bool) → leb n m ≡ b → cond b n 0 ≤ m
-cond-le n m true e = leb-true n m e
-cond-le n m false e = omega arith
+cond_le : (n m : ℕ) (b : Bool) → leb n m ≡ b → cond b n 0 ≤ m
+cond_le n m true e = leb-true n m e
+cond_le n m false e = omega arith
 
-pub count-le : (t : List ℕ) (p : ℕ) → countAt t p ≤ maxListed
-unfolding countAt
-count-le t p = cond-le (inWait t p 5) maxListed (leb (inWait t p 5) maxListed) refl
+pub count_le : (t : List ℕ) (p : ℕ) → count_at t p ≤ max_listed
+unfolding count_at
+count_le t p = cond_le (in_wait t p 5) max_listed (leb (in_wait t p 5) max_listed) refl
 
 -- a part from a to a + n
 part : (t : List ℕ) (a n m : ℕ) → n ≡ m → take ((a + n) - a) (drop a t) ≡ take m (drop a t)
 part t a n m e = let k : (a + n) - a ≡ m = omega arith in rw k
 
-pub list-part : (t : List ℕ) (p : ℕ) {n : ℕ} → n ≡ countAt t p → take ((waitCell p + headerSize + n) - (waitCell p + headerSize)) (drop (waitCell p + headerSize) t) ≡ list_of t p
+pub list_part : (t : List ℕ) (p : ℕ) {n : ℕ} → n ≡ count_at t p → take ((wait_cell p + header_size + n) - (wait_cell p + header_size)) (drop (wait_cell p + header_size) t) ≡ list_of t p
 unfolding list_of
-list-part t p {n} e = part t (waitCell p + headerSize) n (countAt t p) e
+list_part t p {n} e = part t (wait_cell p + header_size) n (count_at t p) e
 
-pub names-part : (t : List ℕ) (p : ℕ) {n : ℕ} → n ≡ countAt t p → take ((waitCell p + 6 + n + 1) - (waitCell p + 6)) (drop (waitCell p + 6) t) ≡ names_of t p
+pub names_part : (t : List ℕ) (p : ℕ) {n : ℕ} → n ≡ count_at t p → take ((wait_cell p + 6 + n + 1) - (wait_cell p + 6)) (drop (wait_cell p + 6) t) ≡ names_of t p
 unfolding names_of
-names-part t p {n} e = let k : (waitCell p + 6 + n + 1) - (waitCell p + 6) ≡ countAt t p + 1 = omega arith in rw k
+names_part t p {n} e = let k : (wait_cell p + 6 + n + 1) - (wait_cell p + 6) ≡ count_at t p + 1 = omega arith in rw k
 
 -- the searches, from p on
-pub object-empty : (t : List ℕ) (p : ℕ) (x : Fields) → x ≡ fields_at t p → x.kind ≡ 0 → eqb (fields_at t p).kind 0 ≡ true
-object-empty t p x e z = rw (sym e) (eq-eqb x.kind 0 z)
+pub object_empty : (t : List ℕ) (p : ℕ) (x : Fields) → x ≡ fields_at t p → x.kind ≡ 0 → eqb (fields_at t p).kind 0 ≡ true
+object_empty t p x e z = rw (sym e) (eq-eqb x.kind 0 z)
 
-pub object-full : (t : List ℕ) (p : ℕ) (x : Fields) → x ≡ fields_at t p → (x.kind ≡ 0 → ⊥) → eqb (fields_at t p).kind 0 ≡ false
-object-full t p x e n = rw (sym e) (ne_eqb x.kind 0 n)
+pub object_full : (t : List ℕ) (p : ℕ) (x : Fields) → x ≡ fields_at t p → (x.kind ≡ 0 → ⊥) → eqb (fields_at t p).kind 0 ≡ false
+object_full t p x e n = rw (sym e) (ne_eqb x.kind 0 n)
 
 -- zero from a place's cell on
-pub unused-zero : (t : List ℕ) (p : ℕ) {n x : ℕ} → n ≡ countAt t p → x ≡ orBelow (cellFrom t (waitCell p + (headerSize + n))) (maxListed - n) → eqb x 0 ≡ unusedZero t p (countAt t p)
-unfolding unusedZero
-unused-zero t p {n} {x} e o = rw (o, sym e) (or-all-zero (cellFrom t (waitCell p + (headerSize + n))) (maxListed - n)
-    ∙ all_same (λ k. eqb (get_or t (waitCell p + (headerSize + n) + k) 0) 0) (λ k. eqb (inWait t p (headerSize + n + k)) 0) (maxListed - n)
-    (λ k. let i : waitCell p + (headerSize + n) + k ≡ waitCell p + (headerSize + n + k) = omega arith in rw i))
+pub unused_zero_lem : (t : List ℕ) (p : ℕ) {n x : ℕ} → n ≡ count_at t p → x ≡ or_below (cell_from t (wait_cell p + (header_size + n))) (max_listed - n) → eqb x 0 ≡ unused_zero t p (count_at t p)
+unfolding unused_zero
+unused_zero_lem t p {n} {x} e o = rw (o, sym e) (or_all_zero (cell_from t (wait_cell p + (header_size + n))) (max_listed - n)
+    ∙ all_same (λ k. eqb (get_or t (wait_cell p + (header_size + n) + k) 0) 0) (λ k. eqb (in_wait t p (header_size + n + k)) 0) (max_listed - n)
+    (λ k. let i : wait_cell p + (header_size + n) + k ≡ wait_cell p + (header_size + n + k) = omega arith in rw i))
 
-pub free-zero : (t : List ℕ) (p : ℕ) {x : ℕ} → x ≡ orBelow (cellFrom t (waitCell p)) waitSize → eqb x 0 ≡ validFree t p
-unfolding validFree
-free-zero t p o = rw o (or-all-zero (cellFrom t (waitCell p)) waitSize)
+pub free_zero : (t : List ℕ) (p : ℕ) {x : ℕ} → x ≡ or_below (cell_from t (wait_cell p)) wait_size → eqb x 0 ≡ valid_free t p
+unfolding valid_free
+free_zero t p o = rw o (or_all_zero (cell_from t (wait_cell p)) wait_size)
 
 -- a wait queued: header, list, next ticket
-pub queued-is : (t : List ℕ) (p mode : ℕ) (list : List ℕ) (owner clock alert timeout : ℕ) {ticket : ℕ} {u v : List ℕ} → ticket ≡ nextTicket t → u ≡ putHeader t p ticket mode owner clock timeout (length list) alert → v ≡ putList u p list
-    → set v 0 (ticket + 1) ≡ queueCells t p mode list owner clock alert timeout
-unfolding queueCells
-queued-is t p mode list owner clock alert timeout e a b = rw (b, a, e)
+pub queued_is : (t : List ℕ) (p mode : ℕ) (list : List ℕ) (owner clock alert timeout : ℕ) {ticket : ℕ} {u v : List ℕ} → ticket ≡ next_ticket t → u ≡ put_header t p ticket mode owner clock timeout (length list) alert → v ≡ put_list u p list
+    → set v 0 (ticket + 1) ≡ queue_cells t p mode list owner clock alert timeout
+unfolding queue_cells
+queued_is t p mode list owner clock alert timeout e a b = rw (b, a, e)
 
 -- newly made tables, after the loop
-pub made-is : (t : List ℕ) {u : List ℕ} {n : ℕ} → n ≡ tableLength → u ≡ foldBelow (λ v i. set v i 0) t n → set u 0 1 ≡ madeCells t
-unfolding madeCells
-made-is t e f = rw (f, e)
+pub made_is : (t : List ℕ) {u : List ℕ} {n : ℕ} → n ≡ table_length → u ≡ fold_below (λ v i. set v i 0) t n → set u 0 1 ≡ made_cells t
+unfolding made_cells
+made_is t e f = rw (f, e)
 
 -- one more number copied
 pub copied : (wide list : List ℕ) (i : ℕ) → take i wide ≡ take i list → i < length wide → i < length list → take (i + 1) (set wide i (get_or list i 0)) ≡ take (i + 1) list
 copied wide list i e l m = rw (add-one, take-suc-set wide i (get_or list i 0) l, take-suc list i 0 m, e)
 
-pub listed-is : (t : List ℕ) (p i : ℕ) {x : ℕ} → length t ≡ tableLength → p < waitPlaces → i < countAt t p → x ≡ inWait t p (headerSize + i) → x ≡ get_or (list_of t p) i 0
-listed-is t p i l h b e = e ∙ sym (list_at t l p h i b)
+pub listed_is : (t : List ℕ) (p i : ℕ) {x : ℕ} → length t ≡ table_length → p < wait_places → i < count_at t p → x ≡ in_wait t p (header_size + i) → x ≡ get_or (list_of t p) i 0
+listed_is t p i l h b e = e ∙ sym (list_at t l p h i b)
 
-pub copy_is : (t : List ℕ) (p i : ℕ) (copy : List ℕ) {list : List ℕ} → length t ≡ tableLength → p < waitPlaces → list ≡ list_of t p → i ≡ length list → take i copy ≡ take i list → take (countAt t p) copy ≡ list_of t p
-copy_is t p i copy {list} l h e z c = let n : countAt t p ≡ i = sym (list_length t l p h) ∙ ap length (sym e) ∙ sym z in
+pub copy_is : (t : List ℕ) (p i : ℕ) (copy : List ℕ) {list : List ℕ} → length t ≡ table_length → p < wait_places → list ≡ list_of t p → i ≡ length list → take i copy ≡ take i list → take (count_at t p) copy ≡ list_of t p
+copy_is t p i copy {list} l h e z c = let n : count_at t p ≡ i = sym (list_length t l p h) ∙ ap length (sym e) ∙ sym z in
     rw n (c ∙ ap (λ (k : ℕ). take k list) z ∙ take-length list ∙ e)

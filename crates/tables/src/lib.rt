@@ -1,12 +1,12 @@
 // The cells of the lent tables: objects and waits, read, written and searched. Only this crate knows where a cell stands.
 ghost use Rattle.std.specs.Prelude.{◌≡◌, ◌+◌, ◌≤◌, ◌<◌, length, get_or, take};
-ghost use Rattle.model.specs.Sizes.{objectPlaces, waitPlaces, maxListed, word64};
-ghost use Rattle.model.specs.Layout.{objectSize, headerSize, waitSize, waitsBase, tableLength, inWait};
-ghost use Rattle.cells.specs.Objects.{fields_at, putFields, isHandle, named, store};
-ghost use Rattle.cells.specs.Waits.{nextTicket, putNext, ticketAt, modeAt, ownerAt, clockAt, timeoutAt, countAt, alertAt, list_of, names_of, has, names_at, clearWait};
-ghost use Rattle.cells.specs.Calls.{emptyObject, ticketPlace, madeCells, putHeader, putList, queueCells};
-ghost use Rattle.cells.specs.Fold.{orBelow, cellFrom};
-ghost use Rattle.cells.specs.Validity.{unusedZero, validFree};
+ghost use Rattle.model.specs.Sizes.{object_places, wait_places, max_listed, word64};
+ghost use Rattle.model.specs.Layout.{object_size, header_size, wait_size, waits_base, table_length, in_wait};
+ghost use Rattle.cells.specs.Objects.{fields_at, put_fields, is_handle, named, store};
+ghost use Rattle.cells.specs.Waits.{next_ticket, put_next, ticket_at, mode_at, owner_at, clock_at, timeout_at, count_at, alert_at, list_of, names_of, has, names_at, clear_wait};
+ghost use Rattle.cells.specs.Calls.{empty_object, ticket_place, made_cells, put_header, put_list, queue_cells};
+ghost use Rattle.cells.specs.Fold.{or_below, cell_from};
+ghost use Rattle.cells.specs.Validity.{unused_zero, valid_free};
 ghost use Rattle.kinds.specs.Values.{cells_of};
 
 use kinds::Object;
@@ -30,7 +30,7 @@ const WAITS_BASE: usize = 1 + OBJECT_SIZE * OBJECT_PLACES;
 // ---- objects, by place and by handle
 
 pub fn object_at(t: &[u64], p: usize) -> Object
-    requires { (p < objectPlaces) × (length t.now ≡ tableLength) }
+    requires { (p < object_places) × (length t.now ≡ table_length) }
     ensures { cells_of result ≡ fields_at t.now p }
 {
     let at = 1 + OBJECT_SIZE * p;
@@ -43,8 +43,8 @@ pub fn object_at(t: &[u64], p: usize) -> Object
 }
 
 pub fn put_object(t: &mut [u64], p: usize, o: Object)
-    requires { (p < objectPlaces) × (length t.old ≡ tableLength) }
-    ensures { t.new ≡ putFields t.old p (cells_of o) }
+    requires { (p < object_places) × (length t.old ≡ table_length) }
+    ensures { t.new ≡ put_fields t.old p (cells_of o) }
 {
     let at = 1 + OBJECT_SIZE * p;
     t[at] = o.kind;
@@ -54,14 +54,14 @@ pub fn put_object(t: &mut [u64], p: usize, o: Object)
 }
 
 fn is_handle(h: u64) -> bool
-    ensures { result ≡ isHandle h }
+    ensures { result ≡ is_handle h }
 {
     (0 < h) & (h <= (OBJECT_PLACES as u64))
 }
 
 // The object that a handle names; a number that is no handle names an empty place.
 pub fn named(t: &[u64], h: u64) -> Object
-    requires { length t.now ≡ tableLength }
+    requires { length t.now ≡ table_length }
     ensures { cells_of result ≡ named t.now h }
 {
     let handle = is_handle(h);
@@ -78,7 +78,7 @@ pub fn named(t: &[u64], h: u64) -> Object
 
 // Nothing is stored where the number is no handle.
 pub fn store(t: &mut [u64], h: u64, o: Object)
-    requires { length t.old ≡ tableLength }
+    requires { length t.old ≡ table_length }
     ensures { t.new ≡ store t.old h (cells_of o) }
 {
     let handle = is_handle(h);
@@ -89,8 +89,8 @@ pub fn store(t: &mut [u64], h: u64, o: Object)
 
 // The lowest empty object place; OBJECT_PLACES where there is none.
 pub fn empty_object(t: &[u64]) -> usize
-    requires { length t.now ≡ tableLength }
-    ensures { result ≡ emptyObject t.now }
+    requires { length t.now ≡ table_length }
+    ensures { result ≡ empty_object t.now }
 {
     let mut p: usize = 0;
     while p < OBJECT_PLACES {
@@ -106,75 +106,75 @@ pub fn empty_object(t: &[u64]) -> usize
 // ---- waits, by place
 
 pub fn next_ticket(t: &[u64]) -> u64
-    requires { length t.now ≡ tableLength }
-    ensures { result ≡ nextTicket t.now }
+    requires { length t.now ≡ table_length }
+    ensures { result ≡ next_ticket t.now }
 {
     t[0]
 }
 
 pub fn put_next(t: &mut [u64], next: u64)
-    requires { length t.old ≡ tableLength }
-    ensures { t.new ≡ putNext t.old next }
+    requires { length t.old ≡ table_length }
+    ensures { t.new ≡ put_next t.old next }
 {
     t[0] = next;
 }
 
 // Cell j of a wait place.
 pub fn wait_cell(t: &[u64], p: usize, j: usize) -> u64
-    requires { (p < waitPlaces) × ((j < waitSize) × (length t.now ≡ tableLength)) }
-    ensures { result ≡ inWait t.now p j }
+    requires { (p < wait_places) × ((j < wait_size) × (length t.now ≡ table_length)) }
+    ensures { result ≡ in_wait t.now p j }
 {
     let at = WAITS_BASE + WAIT_SIZE * p + j;
     t[at]
 }
 
 pub fn ticket_at(t: &[u64], p: usize) -> u64
-    requires { (p < waitPlaces) × (length t.now ≡ tableLength) }
-    ensures { result ≡ ticketAt t.now p }
+    requires { (p < wait_places) × (length t.now ≡ table_length) }
+    ensures { result ≡ ticket_at t.now p }
 {
     wait_cell(t, p, 0)
 }
 
 pub fn mode_at(t: &[u64], p: usize) -> u64
-    requires { (p < waitPlaces) × (length t.now ≡ tableLength) }
-    ensures { result ≡ modeAt t.now p }
+    requires { (p < wait_places) × (length t.now ≡ table_length) }
+    ensures { result ≡ mode_at t.now p }
 {
     wait_cell(t, p, 1)
 }
 
 pub fn owner_at(t: &[u64], p: usize) -> u64
-    requires { (p < waitPlaces) × (length t.now ≡ tableLength) }
-    ensures { result ≡ ownerAt t.now p }
+    requires { (p < wait_places) × (length t.now ≡ table_length) }
+    ensures { result ≡ owner_at t.now p }
 {
     wait_cell(t, p, 2)
 }
 
 pub fn clock_at(t: &[u64], p: usize) -> u64
-    requires { (p < waitPlaces) × (length t.now ≡ tableLength) }
-    ensures { result ≡ clockAt t.now p }
+    requires { (p < wait_places) × (length t.now ≡ table_length) }
+    ensures { result ≡ clock_at t.now p }
 {
     wait_cell(t, p, 3)
 }
 
 pub fn timeout_at(t: &[u64], p: usize) -> u64
-    requires { (p < waitPlaces) × (length t.now ≡ tableLength) }
-    ensures { result ≡ timeoutAt t.now p }
+    requires { (p < wait_places) × (length t.now ≡ table_length) }
+    ensures { result ≡ timeout_at t.now p }
 {
     wait_cell(t, p, 4)
 }
 
 // The number of listed handles, as the cell has it.
 pub fn listed_at(t: &[u64], p: usize) -> u64
-    requires { (p < waitPlaces) × (length t.now ≡ tableLength) }
-    ensures { result ≡ inWait t.now p 5 }
+    requires { (p < wait_places) × (length t.now ≡ table_length) }
+    ensures { result ≡ in_wait t.now p 5 }
 {
     wait_cell(t, p, 5)
 }
 
 // The number of listed handles; a number past the list counts none.
 pub fn count_at(t: &[u64], p: usize) -> usize
-    requires { (p < waitPlaces) × (length t.now ≡ tableLength) }
-    ensures { result ≡ countAt t.now p }
+    requires { (p < wait_places) × (length t.now ≡ table_length) }
+    ensures { result ≡ count_at t.now p }
 {
     let n = listed_at(t, p);
     if n <= (MAX_LISTED as u64) {
@@ -184,15 +184,15 @@ pub fn count_at(t: &[u64], p: usize) -> usize
 }
 
 pub fn alert_at(t: &[u64], p: usize) -> u64
-    requires { (p < waitPlaces) × (length t.now ≡ tableLength) }
-    ensures { result ≡ alertAt t.now p }
+    requires { (p < wait_places) × (length t.now ≡ table_length) }
+    ensures { result ≡ alert_at t.now p }
 {
     wait_cell(t, p, 6)
 }
 
 // A wait's list, as a part of the tables.
 pub fn list_of(t: &[u64], p: usize) -> &[u64]
-    requires { (p < waitPlaces) × (length t.now ≡ tableLength) }
+    requires { (p < wait_places) × (length t.now ≡ table_length) }
     ensures { result.now ≡ list_of t.now p }
 {
     let n = count_at(t, p);
@@ -203,7 +203,7 @@ pub fn list_of(t: &[u64], p: usize) -> &[u64]
 
 // The i-th handle of a wait's list.
 pub fn listed(t: &[u64], p: usize, i: usize) -> u64
-    requires { (p < waitPlaces) × (i < countAt t.now p) × (length t.now ≡ tableLength) }
+    requires { (p < wait_places) × (i < count_at t.now p) × (length t.now ≡ table_length) }
     ensures { result ≡ get_or (list_of t.now p) i 0 }
 {
     wait_cell(t, p, HEADER_SIZE + i)
@@ -211,8 +211,8 @@ pub fn listed(t: &[u64], p: usize, i: usize) -> u64
 
 // A copy of a wait's list, which stays as it is when the tables change.
 pub fn copy_list(t: &[u64], p: usize) -> [u64; MAX_LISTED]
-    requires { (p < waitPlaces) × (length t.now ≡ tableLength) }
-    ensures { (length result ≡ maxListed) × (take (countAt t.now p) result ≡ list_of t.now p) }
+    requires { (p < wait_places) × (length t.now ≡ table_length) }
+    ensures { (length result ≡ max_listed) × (take (count_at t.now p) result ≡ list_of t.now p) }
 {
     let mut copy: [u64; MAX_LISTED] = [0; MAX_LISTED];
     let list = list_of(t, p);
@@ -226,7 +226,7 @@ pub fn copy_list(t: &[u64], p: usize) -> [u64; MAX_LISTED]
 
 // All that a wait names: the alert, then the list.
 pub fn names_of(t: &[u64], p: usize) -> &[u64]
-    requires { (p < waitPlaces) × (length t.now ≡ tableLength) }
+    requires { (p < wait_places) × (length t.now ≡ table_length) }
     ensures { result.now ≡ names_of t.now p }
 {
     let n = count_at(t, p);
@@ -248,7 +248,7 @@ pub fn has(list: &[u64], h: u64) -> bool
 }
 
 pub fn names_at(t: &[u64], h: u64, p: usize) -> bool
-    requires { (p < waitPlaces) × (length t.now ≡ tableLength) }
+    requires { (p < wait_places) × (length t.now ≡ table_length) }
     ensures { result ≡ names_at t.now h p }
 {
     let names = names_of(t, p);
@@ -257,8 +257,8 @@ pub fn names_at(t: &[u64], h: u64, p: usize) -> bool
 
 // The place of the wait with this ticket, for ticket 0 the lowest empty place; WAIT_PLACES where there is none.
 pub fn ticket_place(t: &[u64], ticket: u64) -> usize
-    requires { length t.now ≡ tableLength }
-    ensures { result ≡ ticketPlace t.now ticket }
+    requires { length t.now ≡ table_length }
+    ensures { result ≡ ticket_place t.now ticket }
 {
     let mut p: usize = 0;
     while p < WAIT_PLACES {
@@ -272,8 +272,8 @@ pub fn ticket_place(t: &[u64], ticket: u64) -> usize
 }
 
 pub fn clear_wait(t: &mut [u64], p: usize)
-    requires { (p < waitPlaces) × (length t.old ≡ tableLength) }
-    ensures { t.new ≡ clearWait t.old p }
+    requires { (p < wait_places) × (length t.old ≡ table_length) }
+    ensures { t.new ≡ clear_wait t.old p }
 {
     let base = WAITS_BASE + WAIT_SIZE * p;
     let mut i: usize = 0;
@@ -297,8 +297,8 @@ pub fn put_header(
     n: u64,
     alert: u64,
 )
-    requires { (p < waitPlaces) × (length t.old ≡ tableLength) }
-    ensures { t.new ≡ putHeader t.old p ticket mode owner clock timeout n alert }
+    requires { (p < wait_places) × (length t.old ≡ table_length) }
+    ensures { t.new ≡ put_header t.old p ticket mode owner clock timeout n alert }
 {
     let at = WAITS_BASE + WAIT_SIZE * p;
     t[at] = ticket;
@@ -311,8 +311,8 @@ pub fn put_header(
 }
 
 pub fn put_list(t: &mut [u64], p: usize, list: &[u64])
-    requires { (p < waitPlaces) × (length t.old ≡ tableLength) × (length list.now ≤ maxListed) }
-    ensures { t.new ≡ putList t.old p list.now }
+    requires { (p < wait_places) × (length t.old ≡ table_length) × (length list.now ≤ max_listed) }
+    ensures { t.new ≡ put_list t.old p list.now }
 {
     let base = WAITS_BASE + WAIT_SIZE * p + HEADER_SIZE;
     let mut k: usize = 0;
@@ -334,8 +334,8 @@ pub fn queue(
     alert: u64,
     timeout: u64,
 )
-    requires { (p < waitPlaces) × (length t.old ≡ tableLength) × (length list.now ≤ maxListed) × (nextTicket t.old + 1 < word64) }
-    ensures { t.new ≡ queueCells t.old p mode list.now owner clock alert timeout }
+    requires { (p < wait_places) × (length t.old ≡ table_length) × (length list.now ≤ max_listed) × (next_ticket t.old + 1 < word64) }
+    ensures { t.new ≡ queue_cells t.old p mode list.now owner clock alert timeout }
 {
     let ticket = next_ticket(t);
     put_header(
@@ -358,7 +358,7 @@ pub fn queue(
 // The n cells from a on, or'ed.
 fn bits_of(t: &[u64], a: usize, n: usize) -> u64
     requires { a + n ≤ length t.now }
-    ensures { result ≡ orBelow (cellFrom t.now a) n }
+    ensures { result ≡ or_below (cell_from t.now a) n }
 {
     let mut x: u64 = 0;
     let mut k: usize = 0;
@@ -371,8 +371,8 @@ fn bits_of(t: &[u64], a: usize, n: usize) -> u64
 
 // A wait's list is zero from its end on.
 pub fn unused_zero(t: &[u64], p: usize) -> bool
-    requires { (p < waitPlaces) × (length t.now ≡ tableLength) }
-    ensures { result ≡ unusedZero t.now p (countAt t.now p) }
+    requires { (p < wait_places) × (length t.now ≡ table_length) }
+    ensures { result ≡ unused_zero t.now p (count_at t.now p) }
 {
     let n = count_at(t, p);
     let from = WAITS_BASE + WAIT_SIZE * p + (HEADER_SIZE + n);
@@ -381,8 +381,8 @@ pub fn unused_zero(t: &[u64], p: usize) -> bool
 
 // All cells of an empty wait place are zero.
 pub fn free_zero(t: &[u64], p: usize) -> bool
-    requires { (p < waitPlaces) × (length t.now ≡ tableLength) }
-    ensures { result ≡ validFree t.now p }
+    requires { (p < wait_places) × (length t.now ≡ table_length) }
+    ensures { result ≡ valid_free t.now p }
 {
     bits_of(t, WAITS_BASE + WAIT_SIZE * p, WAIT_SIZE) == 0
 }
@@ -391,8 +391,8 @@ pub fn free_zero(t: &[u64], p: usize) -> bool
 
 // Newly made tables: next ticket 1, all else zero.
 pub fn make(t: &mut [u64])
-    requires { length t.old ≡ tableLength }
-    ensures { t.new ≡ madeCells t.old }
+    requires { length t.old ≡ table_length }
+    ensures { t.new ≡ made_cells t.old }
 {
     let mut i: usize = 0;
     while i < TABLE_LENGTH {
@@ -403,7 +403,7 @@ pub fn make(t: &mut [u64])
 }
 
 pub fn copy(to: &mut [u64], from: &[u64])
-    requires { (length to.old ≡ tableLength) × (length from.now ≡ tableLength) }
+    requires { (length to.old ≡ table_length) × (length from.now ≡ table_length) }
     ensures { to.new ≡ from.now }
 {
     let mut i: usize = 0;
@@ -416,25 +416,25 @@ pub fn copy(to: &mut [u64], from: &[u64])
 // ---- the sizes, tied to the numbers of the meaning
 
 pub fn object_places() -> usize
-    ensures { result ≡ objectPlaces }
+    ensures { result ≡ object_places }
 {
     OBJECT_PLACES
 }
 
 pub fn wait_places() -> usize
-    ensures { result ≡ waitPlaces }
+    ensures { result ≡ wait_places }
 {
     WAIT_PLACES
 }
 
 pub fn max_listed() -> usize
-    ensures { result ≡ maxListed }
+    ensures { result ≡ max_listed }
 {
     MAX_LISTED
 }
 
 pub fn table_length() -> usize
-    ensures { result ≡ tableLength }
+    ensures { result ≡ table_length }
 {
     TABLE_LENGTH
 }

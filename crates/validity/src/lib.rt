@@ -1,11 +1,11 @@
 // The validity check (01: sound tables, else damaged): one pass over the objects, one over the waits.
 ghost use Rattle.std.specs.Prelude.{◌≡◌, true, ◌<◌, length};
 ghost use Rattle.model.specs.Basics.{all_of};
-ghost use Rattle.model.specs.Sizes.{objectPlaces, waitPlaces};
-ghost use Rattle.model.specs.Layout.{tableLength};
+ghost use Rattle.model.specs.Sizes.{object_places, wait_places};
+ghost use Rattle.model.specs.Layout.{table_length};
 ghost use Rattle.cells.specs.Fold.{all_below};
 ghost use Rattle.cells.specs.Objects.{fields_at};
-ghost use Rattle.cells.specs.Validity.{validFields, occupiedAt, eventAt, occupiedList, properHandles, properList, properAlert, aloneAt, headerTests, namesTests, validPlace, validCells};
+ghost use Rattle.cells.specs.Validity.{valid_fields, occupied_at, event_at, occupied_list, proper_handles, proper_list, proper_alert, alone_at, header_tests, names_tests, valid_place, valid_cells};
 ghost use Rattle.kinds.specs.Values.{cells_of};
 
 use kinds::{Event, Mutex, Object, Semaphore};
@@ -17,7 +17,7 @@ const MARKS: usize = 2 * tables::OBJECT_PLACES;
 
 // Each kind answers for its numbers; the cells that an object has no use for are 0.
 fn valid_object(o: Object) -> bool
-    ensures { result ≡ validFields (cells_of o) }
+    ensures { result ≡ valid_fields (cells_of o) }
 {
     let kind = o.kind;
     let count = o.count;
@@ -39,8 +39,8 @@ fn valid_object(o: Object) -> bool
 }
 
 fn valid_objects(t: &[u64]) -> bool
-    requires { length t.now ≡ tableLength }
-    ensures { result ≡ all_below (λ p. validFields (fields_at t.now p)) objectPlaces }
+    requires { length t.now ≡ table_length }
+    ensures { result ≡ all_below (λ p. valid_fields (fields_at t.now p)) object_places }
 {
     let mut ok = true;
     let mut p: usize = 0;
@@ -56,24 +56,24 @@ fn valid_objects(t: &[u64]) -> bool
 // ---- what a wait names
 
 pub fn occupied(t: &[u64], h: u64) -> bool
-    requires { length t.now ≡ tableLength }
-    ensures { result ≡ occupiedAt t.now h }
+    requires { length t.now ≡ table_length }
+    ensures { result ≡ occupied_at t.now h }
 {
     let o = tables::named(t, h);
     0 < o.kind
 }
 
 pub fn is_event(t: &[u64], h: u64) -> bool
-    requires { length t.now ≡ tableLength }
-    ensures { result ≡ eventAt t.now h }
+    requires { length t.now ≡ table_length }
+    ensures { result ≡ event_at t.now h }
 {
     let o = tables::named(t, h);
     o.kind == Event::KIND
 }
 
 fn occupied_list(t: &[u64], list: &[u64]) -> bool
-    requires { length t.now ≡ tableLength }
-    ensures { result ≡ occupiedList t.now list.now }
+    requires { length t.now ≡ table_length }
+    ensures { result ≡ occupied_list t.now list.now }
 {
     let mut ok = true;
     let mut i: usize = 0;
@@ -88,8 +88,8 @@ fn occupied_list(t: &[u64], list: &[u64]) -> bool
 
 // The list's handles are occupied, and none of them is the alert or stands twice: one walk, with a flag for each number met.
 fn occupied_once(t: &[u64], mode: u64, list: &[u64], alert: u64) -> bool
-    requires { (length t.now ≡ tableLength) × (mode ≡ 0 → ⊥) }
-    ensures { properAlert t.now alert ≡ true → result ≡ properHandles t.now mode list.now alert }
+    requires { (length t.now ≡ table_length) × (mode ≡ 0 → ⊥) }
+    ensures { proper_alert t.now alert ≡ true → result ≡ proper_handles t.now mode list.now alert }
 {
     let mut seen: [u8; MARKS] = [0; MARKS];
     let first = (alert % (MARKS as u64)) as usize;
@@ -113,8 +113,8 @@ fn occupied_once(t: &[u64], mode: u64, list: &[u64], alert: u64) -> bool
 
 // A list for its mode, where the alert is a proper one: for any of no handles too (1/13), for all of one at least (house).
 pub fn proper_list(t: &[u64], mode: u64, list: &[u64], alert: u64) -> bool
-    requires { length t.now ≡ tableLength }
-    ensures { properAlert t.now alert ≡ true → result ≡ properList t.now mode list.now alert }
+    requires { length t.now ≡ table_length }
+    ensures { proper_alert t.now alert ≡ true → result ≡ proper_list t.now mode list.now alert }
 {
     if mode == 0 {
         return occupied_list(t, list);
@@ -129,8 +129,8 @@ pub fn proper_list(t: &[u64], mode: u64, list: &[u64], alert: u64) -> bool
 
 // No place before p has its ticket.
 fn alone(t: &[u64], p: usize) -> bool
-    requires { (p < waitPlaces) × (length t.now ≡ tableLength) }
-    ensures { result ≡ aloneAt t.now p }
+    requires { (p < wait_places) × (length t.now ≡ table_length) }
+    ensures { result ≡ alone_at t.now p }
 {
     let ticket = tables::ticket_at(t, p);
     let mut ok = true;
@@ -145,8 +145,8 @@ fn alone(t: &[u64], p: usize) -> bool
 
 // A wait's owner can come to own a mutex.
 fn valid_header(t: &[u64], p: usize) -> bool
-    requires { (p < waitPlaces) × (length t.now ≡ tableLength) }
-    ensures { result ≡ all_of (headerTests t.now p) }
+    requires { (p < wait_places) × (length t.now ≡ table_length) }
+    ensures { result ≡ all_of (header_tests t.now p) }
 {
     let ticket = tables::ticket_at(t, p);
     let next = tables::next_ticket(t);
@@ -165,8 +165,8 @@ fn valid_header(t: &[u64], p: usize) -> bool
 }
 
 fn valid_names(t: &[u64], p: usize) -> bool
-    requires { (p < waitPlaces) × (length t.now ≡ tableLength) }
-    ensures { result ≡ all_of (namesTests t.now p) }
+    requires { (p < wait_places) × (length t.now ≡ table_length) }
+    ensures { result ≡ all_of (names_tests t.now p) }
 {
     let mode = tables::mode_at(t, p);
     let list = tables::list_of(t, p);
@@ -178,8 +178,8 @@ fn valid_names(t: &[u64], p: usize) -> bool
 }
 
 fn valid_place(t: &[u64], p: usize) -> bool
-    requires { (p < waitPlaces) × (length t.now ≡ tableLength) }
-    ensures { result ≡ validPlace t.now p }
+    requires { (p < wait_places) × (length t.now ≡ table_length) }
+    ensures { result ≡ valid_place t.now p }
 {
     let ticket = tables::ticket_at(t, p);
     if ticket == 0 {
@@ -191,8 +191,8 @@ fn valid_place(t: &[u64], p: usize) -> bool
 }
 
 fn valid_waits(t: &[u64]) -> bool
-    requires { length t.now ≡ tableLength }
-    ensures { result ≡ all_below (validPlace t.now) waitPlaces }
+    requires { length t.now ≡ table_length }
+    ensures { result ≡ all_below (valid_place t.now) wait_places }
 {
     let mut ok = true;
     let mut p: usize = 0;
@@ -206,7 +206,7 @@ fn valid_waits(t: &[u64]) -> bool
 
 // The whole check, of any cells.
 pub fn valid(t: &[u64]) -> bool
-    ensures { result ≡ validCells t.now }
+    ensures { result ≡ valid_cells t.now }
 {
     if t.len() != tables::TABLE_LENGTH {
         return false;

@@ -1,10 +1,10 @@
 // A fresh wait for any or for all: its refusals, one attempt, the time test, the queue.
 ghost use Rattle.std.specs.Prelude.{◌≡◌, [], ◌≤◌, length, take};
-ghost use Rattle.model.specs.Sizes.{maxListed};
-ghost use Rattle.model.specs.Calls.{nothingLent};
-ghost use Rattle.model.specs.Layout.{tableLength};
-ghost use Rattle.cells.specs.Calls.{badWait, laterCells, actCells, waitOnCells};
-ghost use Rattle.waits.specs.Values.{waitedBy};
+ghost use Rattle.model.specs.Sizes.{max_listed};
+ghost use Rattle.model.specs.Calls.{nothing_lent};
+ghost use Rattle.model.specs.Layout.{table_length};
+ghost use Rattle.cells.specs.Calls.{bad_wait, later_cells, act_cells, wait_on_cells};
+ghost use Rattle.waits.specs.Values.{waited_by};
 
 // A next ticket that is never given.
 const SPENT: u64 = 18446744073709551615;
@@ -36,8 +36,8 @@ fn bad_wait(
     pad: u64,
     alert: u64,
 ) -> bool
-    requires { length t.now ≡ tableLength }
-    ensures { result ≡ badWait mode list.now asking flags pad alert t.now }
+    requires { length t.now ≡ table_length }
+    ensures { result ≡ bad_wait mode list.now asking flags pad alert t.now }
 {
     let n = list.len();
     let event = validity::is_event(t, alert);
@@ -61,8 +61,8 @@ fn later(
     timeout: u64,
     time: u64,
 ) -> Waited
-    requires { (length t.old ≡ tableLength) × (length list.now ≤ maxListed) }
-    ensures { waitedBy result t.new ≡ laterCells mode list.now asking flags alert timeout time t.old nothingLent }
+    requires { (length t.old ≡ table_length) × (length list.now ≤ max_listed) }
+    ensures { waited_by result t.new ≡ later_cells mode list.now asking flags alert timeout time t.old nothing_lent }
 {
     let up = attempt::time_up(timeout, time);
     if up {
@@ -95,8 +95,8 @@ fn act(
     timeout: u64,
     time: u64,
 ) -> Waited
-    requires { (length t.old ≡ tableLength) × (length list.now ≤ maxListed) }
-    ensures { waitedBy result t.new ≡ actCells mode list.now asking flags alert timeout time t.old nothingLent }
+    requires { (length t.old ≡ table_length) × (length list.now ≤ max_listed) }
+    ensures { waited_by result t.new ≡ act_cells mode list.now asking flags alert timeout time t.old nothing_lent }
 {
     let a = attempt::try_list(t, mode, asking, alert, list);
     let served = a.served;
@@ -112,8 +112,8 @@ fn act(
 
 // The list's numbers, wider.
 fn widen(list: &[u32]) -> [u64; tables::MAX_LISTED]
-    requires { length list.now ≤ maxListed }
-    ensures { (length result ≡ maxListed) × (take (length list.now) result ≡ list.now) }
+    requires { length list.now ≤ max_listed }
+    ensures { (length result ≡ max_listed) × (take (length list.now) result ≡ list.now) }
 {
     let mut wide: [u64; tables::MAX_LISTED] = [0; tables::MAX_LISTED];
     let mut i: usize = 0;
@@ -135,8 +135,8 @@ pub fn wait(
     timeout: u64,
     time: u64,
 ) -> Waited
-    requires { length t.old ≡ tableLength }
-    ensures { waitedBy result t.new ≡ waitOnCells mode list.now asking flags pad alert timeout time t.old nothingLent }
+    requires { length t.old ≡ table_length }
+    ensures { waited_by result t.new ≡ wait_on_cells mode list.now asking flags pad alert timeout time t.old nothing_lent }
 {
     let n = list.len();
     if tables::MAX_LISTED < n {

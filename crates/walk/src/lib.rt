@@ -1,12 +1,12 @@
 // The wake walk: the attempts of queued waits, lowest ticket first; those that are served leave and are told.
 ghost use Rattle.std.specs.Prelude.{◌≡◌, ◌≤◌, ◌<◌, length};
-ghost use Rattle.model.specs.Sizes.{waitPlaces, wakeLength};
-ghost use Rattle.model.specs.Layout.{tableLength};
-ghost use Rattle.cells.specs.Waits.{ownerAt, list_of};
-ghost use Rattle.cells.specs.Attempt.{lookAny, anyAt, alertOf, allAt};
-ghost use Rattle.cells.specs.Walk.{walked, settled, settle, wakeCells};
-ghost use Rattle.attempt.specs.Values.{triedBy};
-ghost use Rattle.walk.specs.Values.{tryBy};
+ghost use Rattle.model.specs.Sizes.{wait_places, wake_length};
+ghost use Rattle.model.specs.Layout.{table_length};
+ghost use Rattle.cells.specs.Waits.{owner_at, list_of};
+ghost use Rattle.cells.specs.Attempt.{look_any, any_at, alert_of, all_at};
+ghost use Rattle.cells.specs.Walk.{walked, settled, settle, wake_cells};
+ghost use Rattle.attempt.specs.Values.{tried_by};
+ghost use Rattle.walk.specs.Values.{try_by};
 
 use attempt::Attempted;
 
@@ -22,8 +22,8 @@ enum By {
 
 // The lowest signaled index of its list; the length where there is none.
 fn look_at(t: &[u64], p: usize) -> usize
-    requires { (p < waitPlaces) × (length t.now ≡ tableLength) }
-    ensures { result ≡ lookAny t.now (ownerAt t.now p) (list_of t.now p) }
+    requires { (p < wait_places) × (length t.now ≡ table_length) }
+    ensures { result ≡ look_any t.now (owner_at t.now p) (list_of t.now p) }
 {
     let asking = tables::owner_at(t, p);
     let list = tables::list_of(t, p);
@@ -32,8 +32,8 @@ fn look_at(t: &[u64], p: usize) -> usize
 
 // The alert, after the list.
 fn alert_of(t: &mut [u64], p: usize) -> Attempted
-    requires { (p < waitPlaces) × (length t.old ≡ tableLength) }
-    ensures { triedBy result t.new ≡ alertOf t.old p }
+    requires { (p < wait_places) × (length t.old ≡ table_length) }
+    ensures { tried_by result t.new ≡ alert_of t.old p }
 {
     let asking = tables::owner_at(t, p);
     let alert = tables::alert_at(t, p);
@@ -43,8 +43,8 @@ fn alert_of(t: &mut [u64], p: usize) -> Attempted
 
 // The attempt of a wait for any.
 fn any_at(t: &mut [u64], p: usize) -> Attempted
-    requires { (p < waitPlaces) × (length t.old ≡ tableLength) }
-    ensures { triedBy result t.new ≡ anyAt t.old p }
+    requires { (p < wait_places) × (length t.old ≡ table_length) }
+    ensures { tried_by result t.new ≡ any_at t.old p }
 {
     let i = look_at(t, p);
     let n = tables::count_at(t, p);
@@ -58,8 +58,8 @@ fn any_at(t: &mut [u64], p: usize) -> Attempted
 
 // A wait for all takes every object of its list; they are signaled.
 fn all_at(t: &mut [u64], p: usize) -> Attempted
-    requires { (p < waitPlaces) × (length t.old ≡ tableLength) }
-    ensures { triedBy result t.new ≡ allAt t.old p }
+    requires { (p < wait_places) × (length t.old ≡ table_length) }
+    ensures { tried_by result t.new ≡ all_at t.old p }
 {
     let asking = tables::owner_at(t, p);
     let n = tables::count_at(t, p);
@@ -76,8 +76,8 @@ fn settle(
     ticket: u64,
     a: Attempted,
 ) -> usize
-    requires { (p < waitPlaces) × (told < waitPlaces) × (length t.old ≡ tableLength) × (wakeLength ≤ length wake.old) }
-    ensures { walked result t.new wake.new ≡ settled (triedBy a t.old) p told ticket wake.old }
+    requires { (p < wait_places) × (told < wait_places) × (length t.old ≡ table_length) × (wake_length ≤ length wake.old) }
+    ensures { walked result t.new wake.new ≡ settled (tried_by a t.old) p told ticket wake.old }
 {
     if !a.served {
         return told;
@@ -88,8 +88,8 @@ fn settle(
 
 // By its list for any, by its alert, or by its whole list, whose objects are signaled.
 fn try_by(t: &mut [u64], p: usize, by: By) -> Attempted
-    requires { (p < waitPlaces) × (length t.old ≡ tableLength) }
-    ensures { triedBy result t.new ≡ tryBy by t.old p }
+    requires { (p < wait_places) × (length t.old ≡ table_length) }
+    ensures { tried_by result t.new ≡ try_by by t.old p }
 {
     match by {
         By::Any => any_at(t, p),
@@ -100,8 +100,8 @@ fn try_by(t: &mut [u64], p: usize, by: By) -> Attempted
 
 // The attempt of the wait at place p, and what follows if it is served; how many are told then.
 fn serve(t: &mut [u64], wake: &mut [u64], p: usize, k: usize, by: By) -> usize
-    requires { (p < waitPlaces) × (k < waitPlaces) × (length t.old ≡ tableLength) × (wakeLength ≤ length wake.old) }
-    ensures { walked result t.new wake.new ≡ settle (tryBy by t.old p) p (walked k t.old wake.old) }
+    requires { (p < wait_places) × (k < wait_places) × (length t.old ≡ table_length) × (wake_length ≤ length wake.old) }
+    ensures { walked result t.new wake.new ≡ settle (try_by by t.old p) p (walked k t.old wake.old) }
 {
     let ticket = tables::ticket_at(t, p);
     let a = try_by(t, p, by);
@@ -113,8 +113,8 @@ fn serve(t: &mut [u64], wake: &mut [u64], p: usize, k: usize, by: By) -> usize
 // After object h has changed: the queued waits once, lowest ticket first. Those whose list or alert names h are tried against
 // the objects as they then stand. How many were served and told.
 pub fn wake(t: &mut [u64], wake: &mut [u64], h: u64) -> usize
-    requires { (length t.old ≡ tableLength) × (wakeLength ≤ length wake.old) }
-    ensures { (walked result t.new wake.new ≡ wakeCells t.old h wake.old) × (result ≤ waitPlaces) }
+    requires { (length t.old ≡ table_length) × (wake_length ≤ length wake.old) }
+    ensures { (walked result t.new wake.new ≡ wake_cells t.old h wake.old) × (result ≤ wait_places) }
 {
     let mut last: u64 = 0;
     let mut k: usize = 0;

@@ -1,5 +1,5 @@
 use Rattle.kinds.specs.Values.{cells_of}
-use Rattle.attempt.proofs.Laws.{acquire-is, abandoned-is}
+use Rattle.attempt.proofs.Laws.{acquire_is, abandoned_is}
 use native.Mathlib.Omega.{arith}
 use borrow.Author.Rules.{rules}
 use Rattle.attempt.proofs.acquire.Statement.{statement}
@@ -28,7 +28,7 @@ same_length c = search rules
 
 -- src/lib.rt:31:1
 returns : tie.Need-returns
-returns c = let a = c.before.before.before.before.before.before.before.before.args in (acquire-is a.t.now a.h (cells_of c.before.before.before.before.before.named.result) c.before.before.before.before.before.named.ensures a.asking (cells_of c.before.before.before.before.acquire.result.next) c.before.before.before.before.acquire.ensures.0 c.before.before.store.ensures, abandoned-is a.t.now a.h (cells_of c.before.before.before.before.before.named.result) c.before.before.before.before.before.named.ensures c.before.before.before.before.acquire.ensures.1)
+returns c = let a = c.before.before.before.before.before.before.before.before.args in (acquire_is a.t.now a.h (cells_of c.before.before.before.before.before.named.result) c.before.before.before.before.before.named.ensures a.asking (cells_of c.before.before.before.before.acquire.result.next) c.before.before.before.before.acquire.ensures.0 c.before.before.store.ensures, abandoned_is a.t.now a.h (cells_of c.before.before.before.before.before.named.result) c.before.before.before.before.before.named.ensures c.before.before.before.before.acquire.ensures.1)
 
 pub acquire_spec : {M : Type 1} → statement M
 acquire_spec =

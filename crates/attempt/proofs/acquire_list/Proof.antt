@@ -1,5 +1,5 @@
-use Rattle.attempt.proofs.Laws.{acquired-start, acquired-more, abandoned-start, abandoned-more}
-use Rattle.cells.specs.Attempt.{acquireFirst, abandonedFirst}
+use Rattle.attempt.proofs.Laws.{acquired_start, acquired_more, abandoned_start, abandoned_more}
+use Rattle.cells.specs.Attempt.{acquire_first, abandoned_first}
 use mathlib.Core.List.{List}
 use lib.ListN.{length}
 use mathlib.Core.Path.{◌≡◌, refl}
@@ -13,14 +13,14 @@ use Rattle.attempt.proofs.acquire_list.Lts as lts
 use Rattle.attempt.proofs.acquire.Reads as acquire-reads
 
 abbrev invariant-loop : tie.invariant-loop
-invariant-loop t₀ asking list dead₀ i₀ t dead i = (i ≤ length list) × (length t ≡ length t₀) × (t ≡ acquireFirst t₀ asking list i) × (dead ≡ abandonedFirst t₀ asking list i)
+invariant-loop t₀ asking list dead₀ i₀ t dead i = (i ≤ length list) × (length t ≡ length t₀) × (t ≡ acquire_first t₀ asking list i) × (dead ≡ abandoned_first t₀ asking list i)
 
 abbrev decreases-loop : tie.decreases-loop
 decreases-loop t₀ asking list dead₀ i₀ t dead i = length list - i
 
 -- src/lib.rt:85:5
 loop-holds : tie.Need-loop-init invariant-loop decreases-loop
-loop-holds c = let a = c.before.before.args in (search rules, refl, acquired-start a.t.now a.asking a.list.now, abandoned-start a.t.now a.asking a.list.now)
+loop-holds c = let a = c.before.before.args in (search rules, refl, acquired_start a.t.now a.asking a.list.now, abandoned_start a.t.now a.asking a.list.now)
 
 -- src/lib.rt:86:17
 mul-h : tie.Need-overflow-mul-h invariant-loop decreases-loop
@@ -44,7 +44,7 @@ loop-less c = search rules
 
 -- src/lib.rt:85:5
 loop-again : tie.Need-loop-preserved invariant-loop decreases-loop
-loop-again c = let a = c.before.before.before.before.before.before.before.before.before.args in (search rules, search rules, acquired-more a.t.now a.asking a.list.now c.before.before.before.before.before.before.loop.i c.before.before.before.before.before.before.loop.invariant.2 c.before.before.acquire.ensures.0, abandoned-more a.t.now a.asking a.list.now c.before.before.before.before.before.before.loop.i c.before.before.before.before.before.before.loop.invariant.2 c.before.before.before.before.before.before.loop.invariant.3 c.before.before.acquire.ensures.1)
+loop-again c = let a = c.before.before.before.before.before.before.before.before.before.args in (search rules, search rules, acquired_more a.t.now a.asking a.list.now c.before.before.before.before.before.before.loop.i c.before.before.before.before.before.before.loop.invariant.2 c.before.before.acquire.ensures.0, abandoned_more a.t.now a.asking a.list.now c.before.before.before.before.before.before.loop.i c.before.before.before.before.before.before.loop.invariant.2 c.before.before.before.before.before.before.loop.invariant.3 c.before.before.acquire.ensures.1)
 
 -- src/lib.rt:78:1
 same_length : tie.Need-same-length invariant-loop decreases-loop

@@ -1,4 +1,4 @@
-use Rattle.attempt.proofs.Laws.{alert-took, alert-missed}
+use Rattle.attempt.proofs.Laws.{alert_took, alert_missed}
 use native.Mathlib.Omega.{arith}
 use borrow.Author.Rules.{rules}
 use Rattle.attempt.proofs.by_alert.Statement.{statement}
@@ -22,7 +22,7 @@ same_length c = search rules
 
 -- src/lib.rt:126:9
 returns : tie.Need-returns
-returns c = let a = c.before.before.before.before.before.before.before.before.args in alert-took a.t.now a.asking a.alert a.n c.before.before.before.before.before.signaled.ensures c.before.before.before.before.if1.true c.before.before.take-one.ensures
+returns c = let a = c.before.before.before.before.before.before.before.before.args in alert_took a.t.now a.asking a.alert a.n c.before.before.before.before.before.signaled.ensures c.before.before.before.before.if1.true c.before.before.take-one.ensures
 
 -- src/lib.rt:120:1
 same-length-2 : tie.Need-same-length-2
@@ -30,7 +30,7 @@ same-length-2 c = search rules
 
 -- src/lib.rt:120:1
 returns-2 : tie.Need-returns-2
-returns-2 c = let a = c.before.before.before.before.args in alert-missed a.t.now a.asking a.alert a.n c.before.signaled.ensures c.if1.false
+returns-2 c = let a = c.before.before.before.before.args in alert_missed a.t.now a.asking a.alert a.n c.before.signaled.ensures c.if1.false
 
 pub by-alert-spec : {M : Type 1} → statement M
 by-alert-spec =

@@ -1,4 +1,4 @@
-use Rattle.attempt.proofs.Laws.{SignaledIn, all_start, all-stop, all-on, all_end}
+use Rattle.attempt.proofs.Laws.{SignaledIn, all_start, all_stop, all_on, all_end}
 use Rattle.cells.specs.Fold.{all_below}
 use mathlib.Core.Bool.{true}
 use mathlib.Core.List.{List}
@@ -37,7 +37,7 @@ signaled-requires c κs = search rules
 
 -- src/lib.rt:70:13
 returns : tie.Need-returns invariant-loop decreases-loop
-returns c = let a = c.before.before.before.before.before.before.before.args in all-stop a.t.now a.asking a.list.now c.before.before.before.before.loop.i c.before.before.before.loop-test.true c.before.signaled.ensures c.if1.true
+returns c = let a = c.before.before.before.before.before.before.before.args in all_stop a.t.now a.asking a.list.now c.before.before.before.before.loop.i c.before.before.before.loop-test.true c.before.signaled.ensures c.if1.true
 
 -- src/lib.rt:72:9
 add-i : tie.Need-overflow-add-i invariant-loop decreases-loop
@@ -49,7 +49,7 @@ loop-less c = search rules
 
 -- src/lib.rt:66:5
 loop-again : tie.Need-loop-preserved invariant-loop decreases-loop
-loop-again c = let a = c.before.before.before.before.before.before.before.args in (search rules, all-on a.t.now a.asking a.list.now c.before.before.before.before.loop.i c.before.signaled.ensures c.if1.false c.before.before.before.before.loop.invariant.1)
+loop-again c = let a = c.before.before.before.before.before.before.before.args in (search rules, all_on a.t.now a.asking a.list.now c.before.before.before.before.loop.i c.before.signaled.ensures c.if1.false c.before.before.before.before.loop.invariant.1)
 
 -- src/lib.rt:61:1
 returns-2 : tie.Need-returns-2 invariant-loop decreases-loop

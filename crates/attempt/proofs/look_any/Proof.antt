@@ -1,6 +1,6 @@
-use Rattle.attempt.proofs.Laws.{SignaledIn, any-start, any_found, any-on, any-end}
-use Rattle.cells.specs.Attempt.{lookAny}
-use Rattle.cells.specs.Fold.{searchFrom}
+use Rattle.attempt.proofs.Laws.{SignaledIn, any_start, any_found, any_on, any_end}
+use Rattle.cells.specs.Attempt.{look_any}
+use Rattle.cells.specs.Fold.{search_from}
 use mathlib.Core.List.{List}
 use lib.ListN.{length}
 use mathlib.Core.Path.{◌≡◌, refl}
@@ -14,14 +14,14 @@ use Rattle.attempt.proofs.look_any.Lts as lts
 use Rattle.attempt.proofs.signaled.Reads as signaled-reads
 
 abbrev invariant-loop : tie.invariant-loop
-invariant-loop t asking list i₀ i = (i ≤ length list) × (lookAny t asking list ≡ searchFrom (SignaledIn t asking list) i (length list - i))
+invariant-loop t asking list i₀ i = (i ≤ length list) × (look_any t asking list ≡ search_from (SignaledIn t asking list) i (length list - i))
 
 abbrev decreases-loop : tie.decreases-loop
 decreases-loop t asking list i₀ i = length list - i
 
 -- src/lib.rt:49:5
 loop-holds : tie.Need-loop-init invariant-loop decreases-loop
-loop-holds c = let a = c.before.before.args in (search rules, any-start a.t.now a.asking a.list.now)
+loop-holds c = let a = c.before.before.args in (search rules, any_start a.t.now a.asking a.list.now)
 
 -- src/lib.rt:50:17
 mul-h : tie.Need-overflow-mul-h invariant-loop decreases-loop
@@ -49,11 +49,11 @@ loop-less c = search rules
 
 -- src/lib.rt:49:5
 loop-again : tie.Need-loop-preserved invariant-loop decreases-loop
-loop-again c = let a = c.before.before.before.before.before.before.before.args in (search rules, any-on a.t.now a.asking a.list.now c.before.before.before.before.loop.i c.before.before.before.loop-test.true c.before.signaled.ensures c.if1.false c.before.before.before.before.loop.invariant.1)
+loop-again c = let a = c.before.before.before.before.before.before.before.args in (search rules, any_on a.t.now a.asking a.list.now c.before.before.before.before.loop.i c.before.before.before.loop-test.true c.before.signaled.ensures c.if1.false c.before.before.before.before.loop.invariant.1)
 
 -- src/lib.rt:44:1
 returns-2 : tie.Need-returns-2 invariant-loop decreases-loop
-returns-2 c = let a = c.before.before.before.before.args in any-end a.t.now a.asking a.list.now c.before.loop.i c.loop-test.false c.before.loop.invariant.1
+returns-2 c = let a = c.before.before.before.before.args in any_end a.t.now a.asking a.list.now c.before.loop.i c.loop-test.false c.before.loop.invariant.1
 
 pub look-any-spec : {M : Type 1} → statement M
 look-any-spec =

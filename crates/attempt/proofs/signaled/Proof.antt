@@ -1,6 +1,6 @@
 use mathlib.Core.Path.{◌∙◌}
 use Rattle.kinds.specs.Values.{cells_of}
-use Rattle.attempt.proofs.Laws.{signaled-is}
+use Rattle.attempt.proofs.Laws.{signaled_is}
 use native.Mathlib.Omega.{arith}
 use borrow.Author.Rules.{rules}
 use Rattle.attempt.proofs.signaled.Statement.{statement}
@@ -20,7 +20,7 @@ signaled-requires c κs = search rules
 
 -- src/lib.rt:22:1
 returns : tie.Need-returns
-returns c = let a = c.before.before.before.args in c.signaled.ensures ∙ signaled-is a.t.now a.h (cells_of c.before.named.result) c.before.named.ensures a.asking
+returns c = let a = c.before.before.before.args in c.signaled.ensures ∙ signaled_is a.t.now a.h (cells_of c.before.named.result) c.before.named.ensures a.asking
 
 pub signaled-spec : {M : Type 1} → statement M
 signaled-spec = tie.close (tie.spec named-requires signaled-requires returns)

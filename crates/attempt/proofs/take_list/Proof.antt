@@ -1,4 +1,4 @@
-use Rattle.attempt.proofs.Laws.{taken-all}
+use Rattle.attempt.proofs.Laws.{taken_all}
 use native.Mathlib.Omega.{arith}
 use borrow.Author.Rules.{rules}
 use Rattle.attempt.proofs.take_list.Statement.{statement}
@@ -22,7 +22,7 @@ same_length c = search rules
 
 -- src/lib.rt:128:1
 returns : tie.Need-returns
-returns c = let a = c.before.before.before.before.before.before.before.args in taken-all a.t.now a.asking a.list.now c.before.before.before.acquire-list.ensures.0 c.before.before.before.acquire-list.ensures.1 c.answer-of.ensures
+returns c = let a = c.before.before.before.before.before.before.before.args in taken_all a.t.now a.asking a.list.now c.before.before.before.acquire-list.ensures.0 c.before.before.before.acquire-list.ensures.1 c.answer-of.ensures
 
 pub take-list-spec : {M : Type 1} → statement M
 take-list-spec = tie.close (tie.spec acquire-list-requires answer-of-requires same_length returns)

@@ -1,5 +1,5 @@
 use mathlib.Core.Path.{◌∙◌}
-use Rattle.attempt.proofs.Laws.{all-took, all_left}
+use Rattle.attempt.proofs.Laws.{all_took, all_left}
 use native.Mathlib.Omega.{arith}
 use borrow.Author.Rules.{rules}
 use Rattle.attempt.proofs.try_all.Statement.{statement}
@@ -24,7 +24,7 @@ same_length c = search rules
 
 -- src/lib.rt:176:9
 returns : tie.Need-returns
-returns c = let a = c.before.before.before.before.before.before.before.before.before.args in c.before.before.take-list.ensures ∙ all-took a.t.now a.asking a.alert a.list.now c.before.before.before.before.before.look-all.ensures c.before.before.before.before.if1.true
+returns c = let a = c.before.before.before.before.before.before.before.before.before.args in c.before.before.take-list.ensures ∙ all_took a.t.now a.asking a.alert a.list.now c.before.before.before.before.before.look-all.ensures c.before.before.before.before.if1.true
 
 -- src/lib.rt:178:5
 by-alert-requires : tie.Need-by-alert-requires

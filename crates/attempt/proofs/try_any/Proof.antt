@@ -1,5 +1,5 @@
 use mathlib.Core.Path.{◌∙◌}
-use Rattle.attempt.proofs.Laws.{any-took, any_left}
+use Rattle.attempt.proofs.Laws.{any_took, any_left}
 use native.Mathlib.Omega.{arith}
 use borrow.Author.Rules.{rules}
 use Rattle.attempt.proofs.try_any.Statement.{statement}
@@ -32,7 +32,7 @@ same_length c = search rules
 
 -- src/lib.rt:142:9
 returns : tie.Need-returns
-returns c = let a = c.before.before.before.before.before.before.before.before.before.before.args in c.before.before.take-one.ensures ∙ any-took a.t.now a.asking a.alert a.list.now c.before.before.before.before.before.before.look-any.ensures c.before.before.before.before.before.if1.true
+returns c = let a = c.before.before.before.before.before.before.before.before.before.before.args in c.before.before.take-one.ensures ∙ any_took a.t.now a.asking a.alert a.list.now c.before.before.before.before.before.before.look-any.ensures c.before.before.before.before.before.if1.true
 
 -- src/lib.rt:144:5
 by-alert-requires : tie.Need-by-alert-requires

@@ -1,6 +1,6 @@
 use Rattle.std.proofs.Common.{◌≡◌, ℕ, ◌-◌, ◌%◌, ◌≤◌, List, length, take, refl, ap, ◌∙◌, arith, take_all, rules}
 use Rattle.model.specs.Sizes.{word32}
-use Rattle.model.specs.Snapshot.{byteSum}
+use Rattle.model.specs.Snapshot.{byte_sum}
 use Rattle.byte_sum.proofs.Laws.{sum_more}
 use Rattle.byte_sum.proofs.byte_sum.Statement.{statement}
 use Rattle.byte_sum.proofs.byte_sum.Tie as tie
@@ -10,14 +10,14 @@ use Rattle.byte_sum.proofs.wide.Reads as wide-reads
 use Rattle.std.proofs.num.wrapping_add_u32.Reads as wrapping-add-u32-reads
 
 abbrev invariant-loop : tie.invariant-loop
-invariant-loop bytes sum₀ i₀ sum i = (i ≤ length bytes) × (sum ≡ byteSum (take i bytes) % word32)
+invariant-loop bytes sum₀ i₀ sum i = (i ≤ length bytes) × (sum ≡ byte_sum (take i bytes) % word32)
 
 abbrev decreases-loop : tie.decreases-loop
 decreases-loop bytes sum₀ i₀ sum i = length bytes - i
 
 -- src/lib.rt:12:5
 loop-holds : tie.Need-loop-init invariant-loop decreases-loop
-unfolding byteSum
+unfolding byte_sum
 loop-holds c = (omega arith, refl)
 
 -- src/lib.rt:19:52
@@ -46,7 +46,7 @@ loop-again c = (omega arith, sum_more c.before.before.before.before.before.befor
 
 -- src/lib.rt:7:1
 returns : tie.Need-returns invariant-loop decreases-loop
-returns c = let b = c.before.before.before.args.bytes.now in c.before.loop.invariant.1 ∙ ap (λ (x : List ℕ). byteSum x % word32) (take_all c.before.loop.i b (omega arith))
+returns c = let b = c.before.before.before.args.bytes.now in c.before.loop.invariant.1 ∙ ap (λ (x : List ℕ). byte_sum x % word32) (take_all c.before.loop.i b (omega arith))
 
 pub byte-sum-spec : {M : Type 1} → statement M
 byte-sum-spec =

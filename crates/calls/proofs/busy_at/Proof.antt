@@ -1,5 +1,5 @@
 use mathlib.Core.Path.{◌∙◌}
-use Rattle.calls.proofs.Laws.{busy-free, busy-queued}
+use Rattle.calls.proofs.Laws.{busy_free, busy_queued}
 use native.Mathlib.Omega.{arith}
 use borrow.Author.Rules.{rules}
 use Rattle.calls.proofs.busy_at.Statement.{statement}
@@ -15,7 +15,7 @@ ticket-at-requires c κs = search rules
 
 -- src/lib.rt:61:9
 returns : tie.Need-returns
-returns c = let a = c.before.before.before.args in busy-free a.t.now a.h a.p c.before.ticket-at.ensures c.if1.true
+returns c = let a = c.before.before.before.args in busy_free a.t.now a.h a.p c.before.ticket-at.ensures c.if1.true
 
 -- src/lib.rt:63:5
 names-at-requires : tie.Need-names-at-requires
@@ -23,7 +23,7 @@ names-at-requires c κs = search rules
 
 -- src/lib.rt:55:1
 returns-2 : tie.Need-returns-2
-returns-2 c = let a = c.before.before.before.before.args in c.names-at.ensures ∙ busy-queued a.t.now a.h a.p c.before.before.ticket-at.ensures c.before.if1.false
+returns-2 c = let a = c.before.before.before.before.args in c.names-at.ensures ∙ busy_queued a.t.now a.h a.p c.before.before.ticket-at.ensures c.before.if1.false
 
 pub busy-at-spec : {M : Type 1} → statement M
 busy-at-spec = tie.close (tie.spec ticket-at-requires returns names-at-requires returns-2)

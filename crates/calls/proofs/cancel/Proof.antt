@@ -1,6 +1,6 @@
 use mathlib.Core.List.{List, []}
-use Rattle.model.specs.Calls.{nothingLent}
-use Rattle.calls.proofs.Laws.{cancel-zero, cancel-done, cancel-none}
+use Rattle.model.specs.Calls.{nothing_lent}
+use Rattle.calls.proofs.Laws.{cancel_zero, cancel_done, cancel_none}
 use native.Mathlib.Omega.{arith}
 use borrow.Author.Rules.{rules}
 use Rattle.calls.proofs.cancel.Statement.{statement}
@@ -12,7 +12,7 @@ use Rattle.tables.proofs.ticket_place.Reads as ticket-place-reads
 
 -- src/lib.rt:205:9
 returns : tie.Need-returns
-returns c = let a = c.before.before.args in cancel-zero a.t.now nothingLent a.ticket c.if1.true
+returns c = let a = c.before.before.args in cancel_zero a.t.now nothing_lent a.ticket c.if1.true
 
 -- src/lib.rt:211:9
 ticket-place-requires : tie.Need-ticket-place-requires
@@ -28,7 +28,7 @@ same_length c = search rules
 
 -- src/lib.rt:214:9
 returns-2 : tie.Need-returns-2
-returns-2 c = let a = c.before.before.before.before.before.before.before.before.before.args in rw c.before.before.clear-wait.ensures (cancel-done a.t.now nothingLent a.ticket c.before.before.before.before.before.before.before.if1.false c.before.before.before.before.before.ticket-place.ensures c.before.before.before.before.if2.true)
+returns-2 c = let a = c.before.before.before.before.before.before.before.before.before.args in rw c.before.before.clear-wait.ensures (cancel_done a.t.now nothing_lent a.ticket c.before.before.before.before.before.before.before.if1.false c.before.before.before.before.before.ticket-place.ensures c.before.before.before.before.if2.true)
 
 -- src/lib.rt:200:1
 same-length-2 : tie.Need-same-length-2
@@ -36,7 +36,7 @@ same-length-2 c = search rules
 
 -- src/lib.rt:200:1
 returns-3 : tie.Need-returns-3
-returns-3 c = let a = c.before.before.before.before.before.args in cancel-none a.t.now nothingLent a.ticket c.before.before.before.if1.false c.before.ticket-place.ensures c.if2.false
+returns-3 c = let a = c.before.before.before.before.before.args in cancel_none a.t.now nothing_lent a.ticket c.before.before.before.if1.false c.before.ticket-place.ensures c.if2.false
 
 pub cancel-spec : {M : Type 1} → statement M
 cancel-spec =

@@ -1,6 +1,6 @@
 use mathlib.Core.List.{List, []}
-use Rattle.model.specs.Calls.{nothingLent}
-use Rattle.calls.proofs.Laws.{close-none, close-busy, close-done}
+use Rattle.model.specs.Calls.{nothing_lent}
+use Rattle.calls.proofs.Laws.{close_none, close_busy, close_done}
 use native.Mathlib.Omega.{arith}
 use borrow.Author.Rules.{rules}
 use Rattle.calls.proofs.close.Statement.{statement}
@@ -21,7 +21,7 @@ same_length c = search rules
 
 -- src/lib.rt:86:9
 returns : tie.Need-returns
-returns c = let a = c.before.before.before.before.args in close-none a.t.now nothingLent a.h c.before.occupied.ensures c.if1.true
+returns c = let a = c.before.before.before.before.args in close_none a.t.now nothing_lent a.h c.before.occupied.ensures c.if1.true
 
 -- src/lib.rt:92:9
 busy-requires : tie.Need-busy-requires
@@ -33,7 +33,7 @@ same-length-2 c = search rules
 
 -- src/lib.rt:94:9
 returns-2 : tie.Need-returns-2
-returns-2 c = let a = c.before.before.before.before.before.before.before.args in close-busy a.t.now nothingLent a.h c.before.before.before.before.occupied.ensures c.before.before.before.if1.false c.before.busy.ensures c.if2.true
+returns-2 c = let a = c.before.before.before.before.before.before.before.args in close_busy a.t.now nothing_lent a.h c.before.before.before.before.occupied.ensures c.before.before.before.if1.false c.before.busy.ensures c.if2.true
 
 -- src/lib.rt:100:5
 store-requires : tie.Need-store-requires
@@ -45,7 +45,7 @@ same-length-3 c = search rules
 
 -- src/lib.rt:80:1
 returns-3 : tie.Need-returns-3
-returns-3 c = let a = c.before.before.before.before.before.before.before.before.before.before.before.args in rw c.before.before.store.ensures (close-done a.t.now nothingLent a.h c.before.before.before.before.before.before.before.before.occupied.ensures c.before.before.before.before.before.before.before.if1.false c.before.before.before.before.before.busy.ensures c.before.before.before.before.if2.false)
+returns-3 c = let a = c.before.before.before.before.before.before.before.before.before.before.before.args in rw c.before.before.store.ensures (close_done a.t.now nothing_lent a.h c.before.before.before.before.before.before.before.before.occupied.ensures c.before.before.before.before.before.before.before.if1.false c.before.before.before.before.before.busy.ensures c.before.before.before.before.if2.false)
 
 pub close_spec : {M : Type 1} → statement M
 close_spec =

@@ -1,7 +1,7 @@
 use mathlib.Core.List.{List, []}
-use Rattle.model.specs.Calls.{nothingLent}
+use Rattle.model.specs.Calls.{nothing_lent}
 use Rattle.kinds.specs.Values.{cells_of}
-use Rattle.calls.proofs.Laws.{create-bad, create-done, create-full}
+use Rattle.calls.proofs.Laws.{create_bad, create_done, create_full}
 use native.Mathlib.Omega.{arith}
 use borrow.Author.Rules.{rules}
 use Rattle.calls.proofs.create.Statement.{statement}
@@ -13,7 +13,7 @@ use Rattle.tables.proofs.put_object.Reads as put-object-reads
 
 -- src/lib.rt:34:9
 returns : tie.Need-returns
-returns c = let a = c.before.before.args in create-bad a.t.now nothingLent (cells_of a.o) c.if1.true
+returns c = let a = c.before.before.args in create_bad a.t.now nothing_lent (cells_of a.o) c.if1.true
 
 -- src/lib.rt:40:9
 empty-object-requires : tie.Need-empty-object-requires
@@ -37,7 +37,7 @@ same_length c = search rules
 
 -- src/lib.rt:43:9
 returns-2 : tie.Need-returns-2
-returns-2 c = let a = c.before.before.before.before.before.before.before.before.before.args in rw c.before.before.put-object.ensures (create-done a.t.now nothingLent (cells_of a.o) c.before.before.before.before.before.before.before.if1.false c.before.before.before.before.before.empty-object.ensures c.before.before.before.before.if2.true)
+returns-2 c = let a = c.before.before.before.before.before.before.before.before.before.args in rw c.before.before.put-object.ensures (create_done a.t.now nothing_lent (cells_of a.o) c.before.before.before.before.before.before.before.if1.false c.before.before.before.before.before.empty-object.ensures c.before.before.before.before.if2.true)
 
 -- src/lib.rt:29:1
 same-length-2 : tie.Need-same-length-2
@@ -45,7 +45,7 @@ same-length-2 c = search rules
 
 -- src/lib.rt:29:1
 returns-3 : tie.Need-returns-3
-returns-3 c = let a = c.before.before.before.before.before.args in create-full a.t.now nothingLent (cells_of a.o) c.before.before.before.if1.false c.before.empty-object.ensures c.if2.false
+returns-3 c = let a = c.before.before.before.before.before.args in create_full a.t.now nothing_lent (cells_of a.o) c.before.before.before.if1.false c.before.empty-object.ensures c.if2.false
 
 pub create-spec : {M : Type 1} → statement M
 create-spec =

@@ -1,4 +1,4 @@
-use Rattle.cells.specs.Calls.{readCells}
+use Rattle.cells.specs.Calls.{read_cells}
 use native.Mathlib.Omega.{arith}
 use borrow.Author.Rules.{rules}
 use Rattle.calls.proofs.read_event.Statement.{statement}
@@ -13,7 +13,7 @@ read-pair-requires c κs = search rules
 
 -- src/lib.rt:144:1
 returns : tie.Need-returns
-unfolding readCells
+unfolding read_cells
 returns c = c.read-pair.ensures
 
 pub read-event-spec : {M : Type 1} → statement M

@@ -1,8 +1,8 @@
 use Rattle.refine.proofs.Validity.{small_of}
 use mathlib.Core.List.{List, []}
-use Rattle.model.specs.Calls.{nothingLent}
-use Rattle.kinds.specs.Values.{cells_of, changeOf}
-use Rattle.calls.proofs.Laws.{reset-refused, reset-done}
+use Rattle.model.specs.Calls.{nothing_lent}
+use Rattle.kinds.specs.Values.{cells_of, change_of}
+use Rattle.calls.proofs.Laws.{reset_refused, reset_done}
 use native.Mathlib.Omega.{arith}
 use borrow.Author.Rules.{rules}
 use Rattle.calls.proofs.reset.Statement.{statement}
@@ -31,7 +31,7 @@ same_length c = search rules
 
 -- src/lib.rt:188:9
 returns : tie.Need-returns
-returns c = let a = c.before.before.before.before.before.before.before.args in reset-refused a.t.now nothingLent a.h (cells_of c.before.before.before.before.named.result) c.before.before.before.before.named.ensures (changeOf c.before.before.switch.result) c.before.before.switch.ensures c.if1.true
+returns c = let a = c.before.before.before.before.before.before.before.args in reset_refused a.t.now nothing_lent a.h (cells_of c.before.before.before.before.named.result) c.before.before.before.before.named.ensures (change_of c.before.before.switch.result) c.before.before.switch.ensures c.if1.true
 
 -- src/lib.rt:194:5
 store-requires : tie.Need-store-requires
@@ -43,7 +43,7 @@ same-length-2 c = search rules
 
 -- src/lib.rt:180:1
 returns-2 : tie.Need-returns-2
-returns-2 c = let a = c.before.before.before.before.before.before.before.before.before.before.before.args in rw c.before.before.store.ensures (reset-done a.t.now nothingLent a.h (cells_of c.before.before.before.before.before.before.before.before.named.result) c.before.before.before.before.before.before.before.before.named.ensures (changeOf c.before.before.before.before.before.before.switch.result) c.before.before.before.before.before.before.switch.ensures c.before.before.before.before.if1.false)
+returns-2 c = let a = c.before.before.before.before.before.before.before.before.before.before.before.args in rw c.before.before.store.ensures (reset_done a.t.now nothing_lent a.h (cells_of c.before.before.before.before.before.before.before.before.named.result) c.before.before.before.before.before.before.before.before.named.ensures (change_of c.before.before.before.before.before.before.switch.result) c.before.before.before.before.before.before.switch.ensures c.before.before.before.before.if1.false)
 
 pub reset-spec : {M : Type 1} → statement M
 reset-spec =

@@ -2,8 +2,8 @@ use Prim.Native.Nat.{◌+◌, ◌/◌, ◌≤◌, ◌<◌}
 use mathlib.Core.Path.{◌≡◌, refl, ◌∙◌}
 use lib.ListN.{length, length-set}
 use lib.Seq.{sets}
-use Rattle.model.specs.Snapshot.{digitsUpTo}
-use Rattle.decimal.proofs.Laws.{count-more, count-some, digit-more, digit-one}
+use Rattle.model.specs.Snapshot.{digits_up_to}
+use Rattle.decimal.proofs.Laws.{count_more, count_some, digit_more, digit_one}
 use native.Mathlib.Omega.{arith}
 use borrow.Author.Rules.{rules}
 use Rattle.decimal.proofs.put_number.Statement.{statement}
@@ -14,7 +14,7 @@ use Rattle.decimal.proofs.digit_count.Reads as digit-count-reads
 
 -- the place is that of the rest's last digit; with the rest's digits written, all are
 abbrev invariant-loop : tie.invariant-loop
-invariant-loop buf₀ at n end place₀ rest₀ buf place rest = (rest ≤ n) × (place < end) × (length buf ≡ length buf₀) × (place + 1 ≡ at + length (digitsUpTo 19 rest)) × (sets buf at (digitsUpTo 19 rest) ≡ sets buf₀ at (digitsUpTo 19 n))
+invariant-loop buf₀ at n end place₀ rest₀ buf place rest = (rest ≤ n) × (place < end) × (length buf ≡ length buf₀) × (place + 1 ≡ at + length (digits_up_to 19 rest)) × (sets buf at (digits_up_to 19 rest) ≡ sets buf₀ at (digits_up_to 19 n))
 
 abbrev decreases-loop : tie.decreases-loop
 decreases-loop buf₀ at n end place₀ rest₀ buf place rest = rest
@@ -29,11 +29,11 @@ add-end c = search rules
 
 -- src/lib.rt:39:21
 sub-place : tie.Need-overflow-sub-place invariant-loop decreases-loop
-sub-place c = search (rules, count-some c.before.before.args.n)
+sub-place c = search (rules, count_some c.before.before.args.n)
 
 -- src/lib.rt:41:5
 loop-holds : tie.Need-loop-init invariant-loop decreases-loop
-loop-holds c = let s = count-some c.before.before.args.n in (search rules, search rules, refl, omega arith, refl)
+loop-holds c = let s = count_some c.before.before.args.n in (search rules, search rules, refl, omega arith, refl)
 
 -- src/lib.rt:42:27
 cast-buf : tie.Need-overflow-cast-buf invariant-loop decreases-loop
@@ -49,7 +49,7 @@ slice-write-buf c = search rules
 
 -- src/lib.rt:44:9
 sub-place-2 : tie.Need-overflow-sub-place-2 invariant-loop decreases-loop
-sub-place-2 c = let r = c.before.loop.rest in search (rules, count-more r (omega arith) (search rules), count-some (r / 10))
+sub-place-2 c = let r = c.before.loop.rest in search (rules, count_more r (omega arith) (search rules), count_some (r / 10))
 
 -- src/lib.rt:41:5
 loop-less : tie.Need-loop-smaller invariant-loop decreases-loop
@@ -57,8 +57,8 @@ loop-less c = search rules
 
 -- src/lib.rt:41:5
 loop-again : tie.Need-loop-preserved invariant-loop decreases-loop
-loop-again c = let l = c.before.loop in let p = l.invariant.3 in let m = count-more l.rest (omega arith) (search rules) in let s = count-some (l.rest / 10) in
-    (search rules, search rules, simp length-set l.invariant.2, omega arith, digit-more l.buf c.before.before.before.before.args.at l.place l.rest p (omega arith) (search rules) ∙ l.invariant.4)
+loop-again c = let l = c.before.loop in let p = l.invariant.3 in let m = count_more l.rest (omega arith) (search rules) in let s = count_some (l.rest / 10) in
+    (search rules, search rules, simp length-set l.invariant.2, omega arith, digit_more l.buf c.before.before.before.before.args.at l.place l.rest p (omega arith) (search rules) ∙ l.invariant.4)
 
 -- src/lib.rt:46:23
 cast-buf-2 : tie.Need-overflow-cast-buf-2 invariant-loop decreases-loop
@@ -78,7 +78,7 @@ same_length c = search rules
 
 -- src/lib.rt:34:1
 returns : tie.Need-returns invariant-loop decreases-loop
-returns c = let l = c.before.loop in (digit-one l.buf c.before.before.before.before.args.at l.place l.rest l.invariant.3 (omega arith) ∙ l.invariant.4, search rules)
+returns c = let l = c.before.loop in (digit_one l.buf c.before.before.before.before.args.at l.place l.rest l.invariant.3 (omega arith) ∙ l.invariant.4, search rules)
 
 pub put-number-spec : {M : Type 1} → statement M
 put-number-spec =

@@ -1,4 +1,4 @@
-use Rattle.decimal.proofs.Laws.{wrote-more, wrote-all}
+use Rattle.decimal.proofs.Laws.{wrote_more, wrote_all}
 use lib.ListN.{length, take, length-set}
 use lib.Seq.{sets}
 use mathlib.Core.Path.{◌≡◌, refl}
@@ -42,7 +42,7 @@ loop-less c = search rules
 
 -- src/lib.rt:11:5
 loop-again : tie.Need-loop-preserved invariant-loop decreases-loop
-loop-again c = let a = c.before.before.before.args in (search rules, simp length-set c.before.before.loop.invariant.1, wrote-more a.buf.now a.text.now a.at c.before.before.loop.i c.before.loop-test.true c.before.before.loop.invariant.2)
+loop-again c = let a = c.before.before.before.args in (search rules, simp length-set c.before.before.loop.invariant.1, wrote_more a.buf.now a.text.now a.at c.before.before.loop.i c.before.loop-test.true c.before.before.loop.invariant.2)
 
 -- src/lib.rt:15:5
 add-result : tie.Need-overflow-add-result invariant-loop decreases-loop
@@ -54,7 +54,7 @@ same_length c = search rules
 
 -- src/lib.rt:6:1
 returns : tie.Need-returns invariant-loop decreases-loop
-returns c = let a = c.before.before.args in wrote-all a.buf.now a.text.now a.at c.before.loop.i (omega arith) c.before.loop.invariant.2
+returns c = let a = c.before.before.args in wrote_all a.buf.now a.text.now a.at c.before.loop.i (omega arith) c.before.loop.invariant.2
 
 pub put-text-spec : {M : Type 1} → statement M
 put-text-spec =

@@ -1,4 +1,4 @@
-use Rattle.ending.proofs.Laws.{due-is}
+use Rattle.ending.proofs.Laws.{due_is}
 use native.Mathlib.Omega.{arith}
 use borrow.Author.Rules.{rules}
 use Rattle.ending.proofs.due.Statement.{statement}
@@ -23,7 +23,7 @@ time-up-requires : tie.Need-time-up-requires
 time-up-requires c κs = search rules
 
 returns : tie.Need-returns
-returns c = let a = c.before.before.before.before.before.args in due-is a.t.now a.clock a.time a.p c.before.before.before.ticket-at.ensures c.before.before.clock-at.ensures c.before.timeout-at.ensures c.time-up.ensures
+returns c = let a = c.before.before.before.before.before.args in due_is a.t.now a.clock a.time a.p c.before.before.before.ticket-at.ensures c.before.before.clock-at.ensures c.before.timeout-at.ensures c.time-up.ensures
 
 pub due-spec : {M : Type 1} → statement M
 due-spec =

@@ -1,6 +1,6 @@
-use Rattle.ending.proofs.Laws.{end-stop, end_more, end-last}
-use Rattle.cells.specs.Walk.{walked, endCells}
-use Rattle.model.specs.Sizes.{waitPlaces}
+use Rattle.ending.proofs.Laws.{end_stop, end_more, end_last}
+use Rattle.cells.specs.Walk.{walked, end_cells}
+use Rattle.model.specs.Sizes.{wait_places}
 use lib.ListN.{length}
 use mathlib.Core.Path.{◌≡◌, refl, sym, ◌∙◌}
 use Prim.Native.Nat.{ℕ, ◌≤◌, ◌-◌}
@@ -15,10 +15,10 @@ use Rattle.ending.proofs.leave.Reads as leave-reads
 use Rattle.ending.proofs.next_due.Reads as next-due-reads
 
 abbrev invariant-loop : tie.invariant-loop
-invariant-loop t₀ wake₀ clock time k₀ t wake k = (k ≤ waitPlaces) × (length t ≡ length t₀) × (length wake ≡ length wake₀) × (endCells waitPlaces clock time (walked 0 t₀ wake₀) ≡ endCells (waitPlaces - k) clock time (walked k t wake))
+invariant-loop t₀ wake₀ clock time k₀ t wake k = (k ≤ wait_places) × (length t ≡ length t₀) × (length wake ≡ length wake₀) × (end_cells wait_places clock time (walked 0 t₀ wake₀) ≡ end_cells (wait_places - k) clock time (walked k t wake))
 
 abbrev decreases-loop : tie.decreases-loop
-decreases-loop t₀ wake₀ clock time k₀ t wake k = waitPlaces - k
+decreases-loop t₀ wake₀ clock time k₀ t wake k = wait_places - k
 
 loop-holds : tie.Need-loop-init invariant-loop decreases-loop
 loop-holds c = (search rules, refl, refl, refl)
@@ -33,7 +33,7 @@ same-length-2 : tie.Need-same-length-2 invariant-loop decreases-loop
 same-length-2 c = search rules
 
 returns : tie.Need-returns invariant-loop decreases-loop
-returns c = let a = c.before.before.before.before.before.before.before.args in (sym (c.before.before.before.before.loop.invariant.3 ∙ end-stop a.clock a.time c.before.before.before.before.loop.t c.before.before.before.before.loop.wake c.before.before.before.before.loop.k c.before.before.before.loop-test.true c.before.next-due.ensures c.if1.true), omega arith)
+returns c = let a = c.before.before.before.before.before.before.before.args in (sym (c.before.before.before.before.loop.invariant.3 ∙ end_stop a.clock a.time c.before.before.before.before.loop.t c.before.before.before.before.loop.wake c.before.before.before.before.loop.k c.before.before.before.loop-test.true c.before.next-due.ensures c.if1.true), omega arith)
 
 ticket-at-requires : tie.Need-ticket-at-requires invariant-loop decreases-loop
 ticket-at-requires c κs = search rules
@@ -57,7 +57,7 @@ same-length-4 : tie.Need-same-length-4 invariant-loop decreases-loop
 same-length-4 c = search rules
 
 returns-2 : tie.Need-returns-2 invariant-loop decreases-loop
-returns-2 c = let a = c.before.before.before.before.args in (sym (c.before.loop.invariant.3 ∙ end-last a.clock a.time c.before.loop.t c.before.loop.wake c.before.loop.k c.loop-test.false), omega arith)
+returns-2 c = let a = c.before.before.before.before.args in (sym (c.before.loop.invariant.3 ∙ end_last a.clock a.time c.before.loop.t c.before.loop.wake c.before.loop.k c.loop-test.false), omega arith)
 
 pub end-due-spec : {M : Type 1} → statement M
 end-due-spec =

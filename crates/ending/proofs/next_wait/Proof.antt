@@ -1,8 +1,8 @@
-use Rattle.cells.specs.Waits.{ticketAt, better, lowest, nextWait}
+use Rattle.cells.specs.Waits.{ticket_at, better, lowest, next_wait}
 use lib.Dec.{ltb}
-use Rattle.ending.proofs.Laws.{lowest_start, lowest-more}
-use Rattle.cells.specs.Fold.{foldBelow}
-use Rattle.model.specs.Sizes.{waitPlaces}
+use Rattle.ending.proofs.Laws.{lowest_start, lowest_more}
+use Rattle.cells.specs.Fold.{fold_below}
+use Rattle.model.specs.Sizes.{wait_places}
 use mathlib.Core.Path.{◌≡◌, ap}
 use Prim.Native.Nat.{ℕ, ◌≤◌, ◌-◌}
 use native.Mathlib.Omega.{arith}
@@ -15,13 +15,13 @@ use Rattle.tables.proofs.ticket_at.Reads as ticket-at-reads
 use Rattle.ending.proofs.better.Reads as better-reads
 
 abbrev invariant-loop : tie.invariant-loop
-invariant-loop t last best₀ i₀ best i = (i ≤ waitPlaces) × (best ≡ foldBelow (better t (λ k. ltb last (ticketAt t k))) waitPlaces i)
+invariant-loop t last best₀ i₀ best i = (i ≤ wait_places) × (best ≡ fold_below (better t (λ k. ltb last (ticket_at t k))) wait_places i)
 
 abbrev decreases-loop : tie.decreases-loop
-decreases-loop t last best₀ i₀ best i = waitPlaces - i
+decreases-loop t last best₀ i₀ best i = wait_places - i
 
 loop-holds : tie.Need-loop-init invariant-loop decreases-loop
-loop-holds c = let a = c.before.args in (search rules, lowest_start a.t.now (λ k. ltb a.last (ticketAt a.t.now k)))
+loop-holds c = let a = c.before.args in (search rules, lowest_start a.t.now (λ k. ltb a.last (ticket_at a.t.now k)))
 
 ticket-at-requires : tie.Need-ticket-at-requires invariant-loop decreases-loop
 ticket-at-requires c κs = search rules
@@ -36,11 +36,11 @@ loop-less : tie.Need-loop-smaller invariant-loop decreases-loop
 loop-less c = search rules
 
 loop-again : tie.Need-loop-preserved invariant-loop decreases-loop
-loop-again c = let a = c.before.before.before.before.before.args in (search rules, lowest-more a.t.now (λ k. ltb a.last (ticketAt a.t.now k)) c.before.before.before.loop.i c.before.before.before.loop.best _ c.before.before.before.loop.invariant.1 (ap (λ (n : ℕ). ltb a.last n) c.before.ticket-at.ensures) c.better.ensures)
+loop-again c = let a = c.before.before.before.before.before.args in (search rules, lowest_more a.t.now (λ k. ltb a.last (ticket_at a.t.now k)) c.before.before.before.loop.i c.before.before.before.loop.best _ c.before.before.before.loop.invariant.1 (ap (λ (n : ℕ). ltb a.last n) c.before.ticket-at.ensures) c.better.ensures)
 
 returns : tie.Need-returns invariant-loop decreases-loop
-unfolding nextWait lowest
-returns c = let e : c.before.loop.i ≡ waitPlaces = omega arith in rw e at c.before.loop.invariant.1
+unfolding next_wait lowest
+returns c = let e : c.before.loop.i ≡ wait_places = omega arith in rw e at c.before.loop.invariant.1
 
 pub next-wait-spec : {M : Type 1} → statement M
 next-wait-spec =

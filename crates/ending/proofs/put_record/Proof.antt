@@ -1,5 +1,5 @@
 use lib.ListN.{length-set}
-use Rattle.cells.specs.Waits.{putRecord}
+use Rattle.cells.specs.Waits.{put_record}
 use mathlib.Core.Path.{refl}
 use native.Mathlib.Omega.{arith}
 use borrow.Author.Rules.{rules}
@@ -39,7 +39,7 @@ same_length : tie.Need-same-length
 same_length c = search rules
 
 returns : tie.Need-returns
-unfolding putRecord
+unfolding put_record
 returns c = refl
 
 pub put-record-spec : {M : Type 1} → statement M

@@ -1,5 +1,5 @@
 use Rattle.std.proofs.Common.{◌+◌, ◌*◌, sym, arith, rules, le-ltb, lt-ltb}
-use Rattle.lines.proofs.Laws.{ltb-moved}
+use Rattle.lines.proofs.Laws.{ltb_moved}
 use Rattle.lines.proofs.above.Statement.{statement}
 use Rattle.lines.proofs.above.Tie as tie
 use Rattle.lines.proofs.above.Reads as reads
@@ -23,7 +23,7 @@ sub-result c = search rules
 
 -- src/lib.rt:58:1
 returns-3 : tie.Need-returns-3
-returns-3 c = ltb-moved c.before.before.args.n c.before.before.args.d c.before.before.args.high (omega arith)
+returns-3 c = ltb_moved c.before.before.args.n c.before.before.args.d c.before.before.args.high (omega arith)
 
 pub above-spec : {M : Type 1} → statement M
 above-spec = tie.close (tie.spec returns returns-2 mul-result sub-result returns-3)

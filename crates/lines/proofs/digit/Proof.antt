@@ -1,4 +1,4 @@
-use Rattle.lines.proofs.Laws.{digit-end, digit-other, digit-here}
+use Rattle.lines.proofs.Laws.{digit_end, digit_other, digit_here}
 use Rattle.std.proofs.Common.{◌∙◌, arith, rules}
 use Rattle.lines.proofs.digit.Statement.{statement}
 use Rattle.lines.proofs.digit.Tie as tie
@@ -9,7 +9,7 @@ use Rattle.std.proofs.num.wrapping_sub_u64.Reads as wrapping-sub-u64-reads
 
 -- src/lib.rt:47:9
 returns : tie.Need-returns
-returns c = digit-end c.before.before.args.text.now c.before.before.args.i c.if1.true
+returns c = digit_end c.before.before.args.text.now c.before.before.args.i c.if1.true
 
 -- src/lib.rt:50:35
 shared-slice-read-wide : tie.Need-shared-slice-read-wide
@@ -25,11 +25,11 @@ wrapping-sub-u64-requires c κs = search rules
 
 -- src/lib.rt:52:9
 returns-2 : tie.Need-returns-2
-returns-2 c = digit-other c.before.before.before.before.before.before.args.text.now c.before.before.before.before.before.before.args.i (omega arith) c.before.wrapping-sub-u64.result (c.before.wrapping-sub-u64.ensures ∙ c.before.before.wide.ensures) c.if2.true (search rules)
+returns-2 c = digit_other c.before.before.before.before.before.before.args.text.now c.before.before.before.before.before.before.args.i (omega arith) c.before.wrapping-sub-u64.result (c.before.wrapping-sub-u64.ensures ∙ c.before.before.wide.ensures) c.if2.true (search rules)
 
 -- src/lib.rt:43:1
 returns-3 : tie.Need-returns-3
-returns-3 c = digit-here c.before.before.before.before.before.before.args.text.now c.before.before.before.before.before.before.args.i (omega arith) c.before.wrapping-sub-u64.result (c.before.wrapping-sub-u64.ensures ∙ c.before.before.wide.ensures) c.if2.false
+returns-3 c = digit_here c.before.before.before.before.before.before.args.text.now c.before.before.before.before.before.before.args.i (omega arith) c.before.wrapping-sub-u64.result (c.before.wrapping-sub-u64.ensures ∙ c.before.before.wide.ensures) c.if2.false
 
 pub digit-spec : {M : Type 1} → statement M
 digit-spec =

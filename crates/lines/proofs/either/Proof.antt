@@ -1,6 +1,6 @@
 use Rattle.std.proofs.Common.{sym, ◌∙◌, rules}
 use borrow.Author.Tests.{not-true, not-false}
-use Rattle.lines.proofs.Laws.{either_first, either_second, either-none}
+use Rattle.lines.proofs.Laws.{either_first, either_second, either_none}
 use Rattle.lines.proofs.either.Statement.{statement}
 use Rattle.lines.proofs.either.Tie as tie
 use Rattle.lines.proofs.either.Reads as reads
@@ -30,7 +30,7 @@ bad-line-requires c κs = search rules
 
 -- src/lib.rt:163:9
 returns-2 : tie.Need-returns-2
-returns-2 c = rw c.bad-line.ensures (either-none c.before.before.before.before.before.before.before.before.args.text.now c.before.before.before.before.before.before.before.before.args.at c.before.before.before.before.before.before.before.before.args.first.now c.before.before.before.before.before.before.before.before.args.second.now c.before.before.before.before.before.before.before.before.requires (sym c.before.before.before.before.begins.ensures ∙ c.before.before.before.if1.false) (sym c.before.before.begins2.ensures ∙ not-true _ c.before.if2.true))
+returns-2 c = rw c.bad-line.ensures (either_none c.before.before.before.before.before.before.before.before.args.text.now c.before.before.before.before.before.before.before.before.args.at c.before.before.before.before.before.before.before.before.args.first.now c.before.before.before.before.before.before.before.before.args.second.now c.before.before.before.before.before.before.before.before.requires (sym c.before.before.before.before.begins.ensures ∙ c.before.before.before.if1.false) (sym c.before.before.begins2.ensures ∙ not-true _ c.before.if2.true))
 
 -- src/lib.rt:167:13
 add-t11 : tie.Need-overflow-add-t11

@@ -1,4 +1,4 @@
-use Rattle.lines.proofs.Laws.{refused, ended-not, ended-good}
+use Rattle.lines.proofs.Laws.{refused, ended_not, ended_good}
 use borrow.Author.Tests.{not-true, not-false}
 use Rattle.std.proofs.Common.{drop, sym, ◌∙◌, rules}
 use Rattle.lines.proofs.ended.Statement.{statement}
@@ -22,7 +22,7 @@ bad-line-requires c κs = search rules
 
 -- src/lib.rt:89:9
 returns : tie.Need-returns
-returns c = refused c.before.before.before.before.before.requires.0 c.bad-line.ensures (ended-not c.before.before.before.before.before.args.n (drop c.before.before.before.before.before.args.at c.before.before.before.before.before.args.text.now) (drop c.before.before.before.before.before.args.i c.before.before.before.before.before.args.text.now) (sym c.before.before.begins.ensures ∙ not-true _ c.before.if1.true))
+returns c = refused c.before.before.before.before.before.requires.0 c.bad-line.ensures (ended_not c.before.before.before.before.before.args.n (drop c.before.before.before.before.before.args.at c.before.before.before.before.before.args.text.now) (drop c.before.before.before.before.before.args.i c.before.before.before.before.before.args.text.now) (sym c.before.before.begins.ensures ∙ not-true _ c.before.if1.true))
 
 -- src/lib.rt:93:13
 add-t10 : tie.Need-overflow-add-t10
@@ -30,7 +30,7 @@ add-t10 c = search rules
 
 -- src/lib.rt:83:1
 returns-2 : tie.Need-returns-2
-returns-2 c = ended-good c.before.before.before.before.args.text.now c.before.before.before.before.args.at c.before.before.before.before.args.i c.before.before.before.before.args.n (sym c.before.begins.ensures ∙ not-false _ c.if1.false) c.before.before.before.before.requires.1
+returns-2 c = ended_good c.before.before.before.before.args.text.now c.before.before.before.before.args.at c.before.before.before.before.args.i c.before.before.before.before.args.n (sym c.before.begins.ensures ∙ not-false _ c.if1.false) c.before.before.before.before.requires.1
 
 pub ended-spec : {M : Type 1} → statement M
 ended-spec =

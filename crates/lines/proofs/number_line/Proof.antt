@@ -1,4 +1,4 @@
-use Rattle.lines.proofs.Laws.{leads-end, refused, line-keyless, line-unread, line_low, line_read}
+use Rattle.lines.proofs.Laws.{leads_end, refused, line_keyless, line_unread, line_low, line_read}
 use borrow.Author.Tests.{not-true, not-false}
 use Rattle.std.proofs.Common.{drop, sym, ◌∙◌, rules}
 use Rattle.lines.proofs.number_line.Statement.{statement}
@@ -19,7 +19,7 @@ bad-line-requires c κs = search rules
 
 -- src/lib.rt:136:9
 returns : tie.Need-returns
-returns c = refused c.before.before.before.before.before.requires c.bad-line.ensures (line-keyless c.before.before.before.before.before.args.key.now c.before.before.before.before.before.args.low c.before.before.before.before.before.args.high (drop c.before.before.before.before.before.args.at c.before.before.before.before.before.args.text.now) (sym c.before.before.begins.ensures ∙ not-true _ c.before.if1.true))
+returns c = refused c.before.before.before.before.before.requires c.bad-line.ensures (line_keyless c.before.before.before.before.before.args.key.now c.before.before.before.before.before.args.low c.before.before.before.before.before.args.high (drop c.before.before.before.before.before.args.at c.before.before.before.before.before.args.text.now) (sym c.before.before.begins.ensures ∙ not-true _ c.before.if1.true))
 
 -- src/lib.rt:138:26
 add-number : tie.Need-overflow-add-number
@@ -27,7 +27,7 @@ add-number c = search rules
 
 -- src/lib.rt:138:9
 number-requires : tie.Need-number-requires
-number-requires c κs = leads-end c.before.before.before.before.args.key.now c.before.before.before.before.args.text.now c.before.before.before.before.args.at (sym c.before.begins.ensures ∙ not-false _ c.if1.false) c.before.before.before.before.requires
+number-requires c κs = leads_end c.before.before.before.before.args.key.now c.before.before.before.before.args.text.now c.before.before.before.before.args.at (sym c.before.begins.ensures ∙ not-false _ c.if1.false) c.before.before.before.before.requires
 
 -- src/lib.rt:140:9
 bad-line-requires-2 : tie.Need-bad-line-requires-2
@@ -35,7 +35,7 @@ bad-line-requires-2 c κs = search rules
 
 -- src/lib.rt:140:9
 returns-2 : tie.Need-returns-2
-returns-2 c = refused c.before.before.before.before.before.before.before.before.requires c.bad-line2.ensures (line-unread c.before.before.before.before.before.before.before.before.args.text.now c.before.before.before.before.before.before.before.before.args.at c.before.before.before.before.before.before.before.before.args.key.now c.before.before.before.before.before.before.before.before.args.low c.before.before.before.before.before.before.before.before.args.high (sym c.before.before.before.before.before.begins.ensures ∙ not-false _ c.before.before.before.before.if1.false) c.before.before.before.number.ensures (not-true _ c.before.if2.true))
+returns-2 c = refused c.before.before.before.before.before.before.before.before.requires c.bad-line2.ensures (line_unread c.before.before.before.before.before.before.before.before.args.text.now c.before.before.before.before.before.before.before.before.args.at c.before.before.before.before.before.before.before.before.args.key.now c.before.before.before.before.before.before.before.before.args.low c.before.before.before.before.before.before.before.before.args.high (sym c.before.before.before.before.before.begins.ensures ∙ not-false _ c.before.before.before.before.if1.false) c.before.before.before.number.ensures (not-true _ c.before.if2.true))
 
 -- src/lib.rt:143:9
 bad-line-requires-3 : tie.Need-bad-line-requires-3

@@ -1,5 +1,5 @@
 use Rattle.model.specs.Calls.{cancel}
-use Rattle.ntsync_guard.proofs.Laws.{found-length, corrupt, served}
+use Rattle.ntsync_guard.proofs.Laws.{found_length, corrupt, served}
 use native.Mathlib.Omega.{arith}
 use borrow.Author.Rules.{rules}
 use Rattle.ntsync_changes.proofs.cancel.Statement.{statement}
@@ -15,7 +15,7 @@ returns : tie.Need-returns
 returns c = let a = c.before.before.before.before.args in corrupt (cancel a.ticket) a.tables.now (λ i. omega (arith, c.before.before.before.slice-known.given i)) c.before.valid.ensures c.if1.true
 
 cancel-requires : tie.Need-cancel-requires
-cancel-requires c κs = found-length c.before.before.before.before.before.args.tables.now c.before.before.valid.ensures c.before.if1.false
+cancel-requires c κs = found_length c.before.before.before.before.before.args.tables.now c.before.before.valid.ensures c.before.if1.false
 
 same-length-2 : tie.Need-same-length-2
 same-length-2 c = search rules

@@ -1,5 +1,5 @@
 use Rattle.model.specs.Calls.{resetEvent}
-use Rattle.ntsync_guard.proofs.Laws.{found-length, found-valid, corrupt, served}
+use Rattle.ntsync_guard.proofs.Laws.{found_length, found_valid, corrupt, served}
 use native.Mathlib.Omega.{arith}
 use borrow.Author.Rules.{rules}
 use Rattle.ntsync_changes.proofs.reset.Statement.{statement}
@@ -15,7 +15,7 @@ returns : tie.Need-returns
 returns c = let a = c.before.before.before.before.args in corrupt (resetEvent a.handle) a.tables.now (λ i. omega (arith, c.before.before.before.slice-known.given i)) c.before.valid.ensures c.if1.true
 
 reset-requires : tie.Need-reset-requires
-reset-requires c κs = (found-length c.before.before.before.before.before.args.tables.now c.before.before.valid.ensures c.before.if1.false, found-valid c.before.before.before.before.before.args.tables.now c.before.before.valid.ensures c.before.if1.false)
+reset-requires c κs = (found_length c.before.before.before.before.before.args.tables.now c.before.before.valid.ensures c.before.if1.false, found_valid c.before.before.before.before.before.args.tables.now c.before.before.valid.ensures c.before.if1.false)
 
 same-length-2 : tie.Need-same-length-2
 same-length-2 c = search rules

@@ -1,6 +1,6 @@
 use mathlib.Core.List.{[]}
-use Rattle.model.specs.Calls.{expire, wakeLent, asks}
-use Rattle.ntsync_fronts.proofs.Laws.{front-room, handed-is}
+use Rattle.model.specs.Calls.{expire, wake_lent, asks}
+use Rattle.ntsync_fronts.proofs.Laws.{front_room, handed_is}
 use native.Mathlib.Omega.{arith}
 use borrow.Author.Rules.{rules}
 use Rattle.ntsync_fronts.proofs.expire_woken.Statement.{statement}
@@ -19,13 +19,13 @@ cast-t13 : tie.Need-overflow-cast-t13
 cast-t13 c = search rules
 
 front-requires : tie.Need-front-requires
-front-requires c κs = let a = c.before.before.before.before.before.before.before.before.before.before.before.before.before.args in front-room a.tables.now (asks (expire a.clock a.time) (wakeLent a.wake.now)) c.before.before.before.before.before.before.before.before.expire.ensures
+front-requires c κs = let a = c.before.before.before.before.before.before.before.before.before.before.before.before.before.args in front_room a.tables.now (asks (expire a.clock a.time) (wake_lent a.wake.now)) c.before.before.before.before.before.before.before.before.expire.ensures
 
 same_length : tie.Need-same-length
 same_length c = search rules
 
 returns : tie.Need-returns
-returns c = let a = c.before.before.before.before.before.before.before.before.before.before.before.before.before.before.args in (handed-is a.tables.now (asks (expire a.clock a.time) (wakeLent a.wake.now)) c.before.before.before.before.before.before.before.before.before.expire.ensures c.front.ensures.0, c.front.ensures.1)
+returns c = let a = c.before.before.before.before.before.before.before.before.before.before.before.before.before.before.args in (handed_is a.tables.now (asks (expire a.clock a.time) (wake_lent a.wake.now)) c.before.before.before.before.before.before.before.before.before.expire.ensures c.front.ensures.0, c.front.ensures.1)
 
 pub expire-woken-spec : {M : Type 1} → statement M
 expire-woken-spec =

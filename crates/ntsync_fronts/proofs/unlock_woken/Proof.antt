@@ -1,6 +1,6 @@
 use mathlib.Core.List.{[]}
-use Rattle.model.specs.Calls.{signal, unlock, wakeLent, asks}
-use Rattle.ntsync_fronts.proofs.Laws.{front-room, handed-is}
+use Rattle.model.specs.Calls.{signal, unlock, wake_lent, asks}
+use Rattle.ntsync_fronts.proofs.Laws.{front_room, handed_is}
 use native.Mathlib.Omega.{arith}
 use borrow.Author.Rules.{rules}
 use Rattle.ntsync_fronts.proofs.unlock_woken.Statement.{statement}
@@ -19,13 +19,13 @@ cast-t13 : tie.Need-overflow-cast-t13
 cast-t13 c = search rules
 
 front-requires : tie.Need-front-requires
-front-requires c κs = let a = c.before.before.before.before.before.before.before.before.before.before.before.before.before.args in front-room a.tables.now (asks (signal (unlock a.owner) a.handle) (wakeLent a.wake.now)) c.before.before.before.before.before.before.before.before.unlock.ensures
+front-requires c κs = let a = c.before.before.before.before.before.before.before.before.before.before.before.before.before.args in front_room a.tables.now (asks (signal (unlock a.owner) a.handle) (wake_lent a.wake.now)) c.before.before.before.before.before.before.before.before.unlock.ensures
 
 same_length : tie.Need-same-length
 same_length c = search rules
 
 returns : tie.Need-returns
-returns c = let a = c.before.before.before.before.before.before.before.before.before.before.before.before.before.before.args in (handed-is a.tables.now (asks (signal (unlock a.owner) a.handle) (wakeLent a.wake.now)) c.before.before.before.before.before.before.before.before.before.unlock.ensures c.front.ensures.0, c.front.ensures.1)
+returns c = let a = c.before.before.before.before.before.before.before.before.before.before.before.before.before.before.args in (handed_is a.tables.now (asks (signal (unlock a.owner) a.handle) (wake_lent a.wake.now)) c.before.before.before.before.before.before.before.before.before.unlock.ensures c.front.ensures.0, c.front.ensures.1)
 
 pub unlock-woken-spec : {M : Type 1} → statement M
 unlock-woken-spec =

@@ -1,4 +1,4 @@
-use Rattle.ntsync_restore.proofs.Laws.{wrong-length, refused-whole, accepted-whole}
+use Rattle.ntsync_restore.proofs.Laws.{wrong_length, refused_whole, accepted_whole}
 use native.Mathlib.Omega.{arith}
 use borrow.Author.Rules.{rules}
 use Rattle.ntsync_restore.proofs.restore.Statement.{statement}
@@ -10,7 +10,7 @@ use Rattle.tables.proofs.copy.Reads as copy-reads
 
 -- src/lib.rt:72:9
 returns : tie.Need-returns
-returns c = wrong-length c.before.before.before.args.tables.now c.before.before.before.args.text.now c.if1.true
+returns c = wrong_length c.before.before.before.args.tables.now c.before.before.before.args.text.now c.if1.true
 
 -- src/lib.rt:78:25
 slice-aggregate-judge : tie.Need-slice-aggregate-judge
@@ -22,7 +22,7 @@ judge-requires c κs = search rules
 
 -- src/lib.rt:80:9
 returns-2 : tie.Need-returns-2
-returns-2 c = refused-whole c.before.before.before.before.before.before.before.before.args.tables.now c.before.before.before.before.before.before.before.before.args.text.now c.before.before.before.before.before.if1.false c.before.before.before.judge.result _ c.before.before.before.judge.ensures (λ z. let w : ⊥ = omega arith in w)
+returns-2 c = refused_whole c.before.before.before.before.before.before.before.before.args.tables.now c.before.before.before.before.before.before.before.before.args.text.now c.before.before.before.before.before.if1.false c.before.before.before.judge.result _ c.before.before.before.judge.ensures (λ z. let w : ⊥ = omega arith in w)
 
 -- src/lib.rt:82:26
 slice-aggregate-copy : tie.Need-slice-aggregate-copy
@@ -38,7 +38,7 @@ same_length c = search rules
 
 -- src/lib.rt:67:1
 returns-3 : tie.Need-returns-3
-returns-3 c = rw c.before.before.copy.ensures (accepted-whole c.before.before.before.before.before.before.before.before.before.before.before.before.before.args.tables.now c.before.before.before.before.before.before.before.before.before.before.before.before.before.args.text.now c.before.before.before.before.before.before.before.before.before.before.if1.false c.before.before.before.before.before.before.before.before.judge.result _ c.before.before.before.before.before.before.before.before.judge.ensures (omega arith))
+returns-3 c = rw c.before.before.copy.ensures (accepted_whole c.before.before.before.before.before.before.before.before.before.before.before.before.before.args.tables.now c.before.before.before.before.before.before.before.before.before.before.before.before.before.args.text.now c.before.before.before.before.before.before.before.before.before.before.if1.false c.before.before.before.before.before.before.before.before.judge.result _ c.before.before.before.before.before.before.before.before.judge.ensures (omega arith))
 
 pub restore-spec : {M : Type 1} → statement M
 restore-spec =

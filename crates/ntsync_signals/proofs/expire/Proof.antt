@@ -1,4 +1,4 @@
-use Rattle.ntsync_signals.proofs.Laws.{wakes-length, wakes-long, expire-refused, expire-done}
+use Rattle.ntsync_signals.proofs.Laws.{wakes_length, wakes_long, expire_refused, expire_done}
 use native.Mathlib.Omega.{arith}
 use borrow.Author.Rules.{rules}
 use Rattle.ntsync_signals.proofs.expire.Statement.{statement}
@@ -14,10 +14,10 @@ same-length-2 : tie.Need-same-length-2
 same-length-2 c = search rules
 
 returns : tie.Need-returns
-returns c = let a = c.before.before.before.before.before.before.args in expire-refused a.tables.now a.wake.now c.before.refused.ensures a.clock a.time (λ i. omega (arith, c.before.before.before.before.before.slice-known.given i)) c.if1.true
+returns c = let a = c.before.before.before.before.before.before.args in expire_refused a.tables.now a.wake.now c.before.refused.ensures a.clock a.time (λ i. omega (arith, c.before.before.before.before.before.slice-known.given i)) c.if1.true
 
 expire-requires : tie.Need-expire-requires
-expire-requires c κs = let a = c.before.before.before.before.before.before.before.before.args in (wakes-length a.tables.now a.wake.now c.before.before.before.refused.ensures c.before.before.if1.false, wakes-long a.tables.now a.wake.now c.before.before.before.refused.ensures c.before.before.if1.false)
+expire-requires c κs = let a = c.before.before.before.before.before.before.before.before.args in (wakes_length a.tables.now a.wake.now c.before.before.before.refused.ensures c.before.before.if1.false, wakes_long a.tables.now a.wake.now c.before.before.before.refused.ensures c.before.before.if1.false)
 
 same-length-3 : tie.Need-same-length-3
 same-length-3 c = search rules
@@ -26,7 +26,7 @@ same-length-4 : tie.Need-same-length-4
 same-length-4 c = search rules
 
 returns-2 : tie.Need-returns-2
-returns-2 c = let a = c.before.before.before.before.before.before.before.before.before.before.before.before.before.args in expire-done a.tables.now a.wake.now c.before.before.before.before.before.before.before.before.refused.ensures a.clock a.time (λ i. omega (arith, c.before.before.before.before.before.before.before.before.before.before.before.before.slice-known.given i)) c.before.before.before.before.before.before.before.if1.false c.before.before.before.before.expire.ensures
+returns-2 c = let a = c.before.before.before.before.before.before.before.before.before.before.before.before.before.args in expire_done a.tables.now a.wake.now c.before.before.before.before.before.before.before.before.refused.ensures a.clock a.time (λ i. omega (arith, c.before.before.before.before.before.before.before.before.before.before.before.before.slice-known.given i)) c.before.before.before.before.before.before.before.if1.false c.before.before.before.before.expire.ensures
 
 pub expire-spec : {M : Type 1} → statement M
 expire-spec =

@@ -1,5 +1,5 @@
 use Rattle.model.specs.Calls.{post}
-use Rattle.ntsync_signals.proofs.Laws.{wakes-valid, wakes-length, wakes-long, signal-refused, signal-done}
+use Rattle.ntsync_signals.proofs.Laws.{wakes_valid, wakes_length, wakes_long, signal_refused, signal_done}
 use native.Mathlib.Omega.{arith}
 use borrow.Author.Rules.{rules}
 use Rattle.ntsync_signals.proofs.post.Statement.{statement}
@@ -15,10 +15,10 @@ same-length-2 : tie.Need-same-length-2
 same-length-2 c = search rules
 
 returns : tie.Need-returns
-returns c = let a = c.before.before.before.before.before.before.args in signal-refused a.tables.now a.wake.now c.before.refused.ensures (post a.add) a.handle (λ i. omega (arith, c.before.before.before.before.before.slice-known.given i)) c.if1.true
+returns c = let a = c.before.before.before.before.before.before.args in signal_refused a.tables.now a.wake.now c.before.refused.ensures (post a.add) a.handle (λ i. omega (arith, c.before.before.before.before.before.slice-known.given i)) c.if1.true
 
 post-requires : tie.Need-post-requires
-post-requires c κs = let a = c.before.before.before.before.before.before.before.before.args in (wakes-length a.tables.now a.wake.now c.before.before.before.refused.ensures c.before.before.if1.false, wakes-valid a.tables.now a.wake.now c.before.before.before.refused.ensures c.before.before.if1.false, wakes-long a.tables.now a.wake.now c.before.before.before.refused.ensures c.before.before.if1.false)
+post-requires c κs = let a = c.before.before.before.before.before.before.before.before.args in (wakes_length a.tables.now a.wake.now c.before.before.before.refused.ensures c.before.before.if1.false, wakes_valid a.tables.now a.wake.now c.before.before.before.refused.ensures c.before.before.if1.false, wakes_long a.tables.now a.wake.now c.before.before.before.refused.ensures c.before.before.if1.false)
 
 same-length-3 : tie.Need-same-length-3
 same-length-3 c = search rules
@@ -27,7 +27,7 @@ same-length-4 : tie.Need-same-length-4
 same-length-4 c = search rules
 
 returns-2 : tie.Need-returns-2
-returns-2 c = let a = c.before.before.before.before.before.before.before.before.before.before.before.before.before.args in signal-done a.tables.now a.wake.now c.before.before.before.before.before.before.before.before.refused.ensures (post a.add) a.handle (λ i. omega (arith, c.before.before.before.before.before.before.before.before.before.before.before.before.slice-known.given i)) c.before.before.before.before.before.before.before.if1.false c.before.before.before.before.post.ensures
+returns-2 c = let a = c.before.before.before.before.before.before.before.before.before.before.before.before.before.args in signal_done a.tables.now a.wake.now c.before.before.before.before.before.before.before.before.refused.ensures (post a.add) a.handle (λ i. omega (arith, c.before.before.before.before.before.before.before.before.before.before.before.before.slice-known.given i)) c.before.before.before.before.before.before.before.if1.false c.before.before.before.before.post.ensures
 
 pub post-spec : {M : Type 1} → statement M
 post-spec =

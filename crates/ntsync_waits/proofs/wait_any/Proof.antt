@@ -1,5 +1,5 @@
 use Rattle.model.specs.Waits.{any}
-use Rattle.model.specs.Calls.{wait, nothingLent}
+use Rattle.model.specs.Calls.{wait, nothing_lent}
 use Rattle.ntsync_guard.proofs.Laws.{means}
 use native.Mathlib.Omega.{arith}
 use borrow.Author.Rules.{rules}
@@ -13,7 +13,7 @@ same_length : tie.Need-same-length
 same_length c = search rules
 
 returns : tie.Need-returns
-returns c = let a = c.before.before.before.before.before.before.args in means (wait any a.list.now a.owner a.flags a.pad a.alert a.timeout a.time) a.tables.now nothingLent (λ i. omega (arith, c.before.before.before.before.before.slice-known.given i)) c.before.before.wait.ensures
+returns c = let a = c.before.before.before.before.before.before.args in means (wait any a.list.now a.owner a.flags a.pad a.alert a.timeout a.time) a.tables.now nothing_lent (λ i. omega (arith, c.before.before.before.before.before.slice-known.given i)) c.before.before.wait.ensures
 
 pub wait-any-spec : {M : Type 1} → statement M
 wait-any-spec = tie.close (tie.spec wait-requires same_length returns)

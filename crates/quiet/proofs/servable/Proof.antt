@@ -1,5 +1,5 @@
 use mathlib.Core.Path.{◌∙◌}
-use Rattle.quiet.proofs.Laws.{served-by-list, served-by-alert}
+use Rattle.quiet.proofs.Laws.{served_by_list, served_by_alert}
 use borrow.Author.Rules.{rules}
 use Rattle.quiet.proofs.servable.Statement.{statement}
 use Rattle.quiet.proofs.servable.Tie as tie
@@ -30,7 +30,7 @@ list-serves-requires c κs = search rules
 
 -- src/lib.rt:32:9
 returns : tie.Need-returns
-returns c = served-by-list c.before.before.before.before.before.before.args.t.now c.before.before.before.before.before.before.args.p (rw (c.before.before.before.before.mode-at.ensures, c.before.before.before.owner_at.ensures, c.before.before.list-of.ensures) at c.before.list-serves.ensures) c.if1.true
+returns c = served_by_list c.before.before.before.before.before.before.args.t.now c.before.before.before.before.before.before.args.p (rw (c.before.before.before.before.mode-at.ensures, c.before.before.before.owner_at.ensures, c.before.before.list-of.ensures) at c.before.list-serves.ensures) c.if1.true
 
 -- src/lib.rt:34:9
 alert-at-requires : tie.Need-alert-at-requires
@@ -42,7 +42,7 @@ signaled-requires c κs = search rules
 
 -- src/lib.rt:23:1
 returns-2 : tie.Need-returns-2
-returns-2 c = rw (c.before.before.before.before.before.owner_at.ensures, c.before.alert-at.ensures) at c.signaled.ensures ∙ served-by-alert c.before.before.before.before.before.before.before.before.args.t.now c.before.before.before.before.before.before.before.before.args.p (rw (c.before.before.before.before.before.before.mode-at.ensures, c.before.before.before.before.before.owner_at.ensures, c.before.before.before.before.list-of.ensures) at c.before.before.before.list-serves.ensures) c.before.before.if1.false
+returns-2 c = rw (c.before.before.before.before.before.owner_at.ensures, c.before.alert-at.ensures) at c.signaled.ensures ∙ served_by_alert c.before.before.before.before.before.before.before.before.args.t.now c.before.before.before.before.before.before.before.before.args.p (rw (c.before.before.before.before.before.before.mode-at.ensures, c.before.before.before.before.before.owner_at.ensures, c.before.before.before.before.list-of.ensures) at c.before.before.before.list-serves.ensures) c.before.before.if1.false
 
 pub servable-spec : {M : Type 1} → statement M
 servable-spec =

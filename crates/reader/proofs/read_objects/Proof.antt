@@ -2,7 +2,7 @@ use borrow.Author.Tests.{not-true, not-false}
 use Prim.Native.Nat.{◌≤◌, ◌-◌}
 use mathlib.Core.Path.{◌≡◌, refl}
 use lib.ListN.{length}
-use Rattle.reader.proofs.Laws.{Going, going_start, going-stop, going_more, going_end}
+use Rattle.reader.proofs.Laws.{Going, going_start, going_stop, going_more, going_end}
 use native.Mathlib.Omega.{arith}
 use borrow.Author.Rules.{rules}
 use Rattle.reader.proofs.read_objects.Statement.{statement}
@@ -32,7 +32,7 @@ same_length c = search rules
 
 -- src/lib.rt:283:13
 returns : tie.Need-returns invariant-loop decreases-loop
-returns c = going-stop c.before.before.before.before.before.before.before.args.text.now c.before.before.before.before.before.before.before.args.at c.before.before.before.before.before.before.before.args.n c.before.before.before.before.before.before.before.args.t.now c.before.before.before.before.loop.t c.before.before.before.before.loop.pos c.before.before.before.before.loop.last c.before.before.before.before.loop.rising c.before.before.before.before.loop.i c.before.before.before.before.loop.invariant.3 _ _ c.before.before.before.before.loop.invariant.1 c.before.before.before.loop-test.true c.before.before.read-object.ensures.outcome (not-true _ c.if1.true) refl refl
+returns c = going_stop c.before.before.before.before.before.before.before.args.text.now c.before.before.before.before.before.before.before.args.at c.before.before.before.before.before.before.before.args.n c.before.before.before.before.before.before.before.args.t.now c.before.before.before.before.loop.t c.before.before.before.before.loop.pos c.before.before.before.before.loop.last c.before.before.before.before.loop.rising c.before.before.before.before.loop.i c.before.before.before.before.loop.invariant.3 _ _ c.before.before.before.before.loop.invariant.1 c.before.before.before.loop-test.true c.before.before.read-object.ensures.outcome (not-true _ c.if1.true) refl refl
 
 -- src/lib.rt:287:9
 store-requires : tie.Need-store-requires invariant-loop decreases-loop

@@ -2,12 +2,12 @@ use mathlib.Core.Path.{◌∙◌, ap, sym}
 use lib.ListN.{length, length-set, drop}
 use lib.Seq.{length-take-le}
 use borrow.Author.Tests.{not-true, not-false}
-use Rattle.model.specs.Sizes.{waitPlaces}
+use Rattle.model.specs.Sizes.{wait_places}
 use Rattle.model.specs.Snapshot.{line}
-use Rattle.model.specs.Reading.{numberLine}
+use Rattle.model.specs.Reading.{number_line}
 use Rattle.lines.specs.Outcome.{number_of}
-use Rattle.lines.proofs.Laws.{number-most}
-use Rattle.reader.proofs.Whole.{stop-1, stop-2, stop-3, stop-4, stop-5, stop-6, all-good}
+use Rattle.lines.proofs.Laws.{number_most}
+use Rattle.reader.proofs.Whole.{stop_1, stop_2, stop_3, stop_4, stop_5, stop_6, all_good}
 use borrow.Author.Rules.{rules}
 use Rattle.reader.proofs.read_snapshot.Statement.{statement}
 use Rattle.reader.proofs.read_snapshot.Tie as tie
@@ -35,8 +35,8 @@ unread-requires c κs = search rules
 
 -- src/lib.rt:501:9
 returns : tie.Need-returns
-unfolding numberLine number_of line
-returns c = rw c.unread.ensures (stop-1 c.before.before.before.before.before.before.before.args.text.now c.before.before.before.before.before.before.before.args.t.now _ c.before.before.before.number-line.ensures (not-true _ c.before.if1.true))
+unfolding number_line number_of line
+returns c = rw c.unread.ensures (stop_1 c.before.before.before.before.before.before.before.args.text.now c.before.before.before.before.before.before.before.args.t.now _ c.before.before.before.number-line.ensures (not-true _ c.before.if1.true))
 
 -- src/lib.rt:503:40
 slice-aggregate-number-line-2 : tie.Need-slice-aggregate-number-line-2
@@ -52,8 +52,8 @@ unread-requires-2 c κs = search rules
 
 -- src/lib.rt:505:9
 returns-2 : tie.Need-returns-2
-unfolding numberLine number_of line
-returns-2 c = rw c.unread2.ensures (stop-2 c.before.before.before.before.before.before.before.before.before.before.before.args.text.now c.before.before.before.before.before.before.before.before.before.before.before.args.t.now _ c.before.before.before.before.before.before.before.number-line.ensures (not-false _ c.before.before.before.before.before.if1.false) c.before.before.before.number-line2.ensures (not-true _ c.before.if2.true))
+unfolding number_line number_of line
+returns-2 c = rw c.unread2.ensures (stop_2 c.before.before.before.before.before.before.before.before.before.before.before.args.text.now c.before.before.before.before.before.before.before.before.before.before.before.args.t.now _ c.before.before.before.before.before.before.before.number-line.ensures (not-false _ c.before.before.before.before.before.if1.false) c.before.before.before.number-line2.ensures (not-true _ c.before.if2.true))
 
 -- src/lib.rt:507:5
 put-next-requires : tie.Need-put-next-requires
@@ -73,8 +73,8 @@ same_length c = (c.before.before.before.before.before.read-objects.ensures.size 
 
 -- src/lib.rt:510:9
 returns-3 : tie.Need-returns-3
-unfolding numberLine number_of line
-returns-3 c = rw c.unread3.ensures (stop-3 c.before.before.before.before.before.before.before.before.before.before.before.before.before.before.before.before.before.before.before.before.before.args.text.now c.before.before.before.before.before.before.before.before.before.before.before.before.before.before.before.before.before.before.before.before.before.args.t.now _ c.before.before.before.before.before.before.before.before.before.before.before.before.before.before.before.before.before.number-line.ensures (not-false _ c.before.before.before.before.before.before.before.before.before.before.before.before.before.before.before.if1.false) c.before.before.before.before.before.before.before.before.before.before.before.before.before.number-line2.ensures (not-false _ c.before.before.before.before.before.before.before.before.before.before.before.if2.false) c.before.before.before.before.before.read-objects.result _ (rw c.before.before.before.before.before.before.before.before.before.put_next.ensures at c.before.before.before.before.before.read-objects.ensures) (not-true _ c.before.if3.true))
+unfolding number_line number_of line
+returns-3 c = rw c.unread3.ensures (stop_3 c.before.before.before.before.before.before.before.before.before.before.before.before.before.before.before.before.before.before.before.before.before.args.text.now c.before.before.before.before.before.before.before.before.before.before.before.before.before.before.before.before.before.before.before.before.before.args.t.now _ c.before.before.before.before.before.before.before.before.before.before.before.before.before.before.before.before.before.number-line.ensures (not-false _ c.before.before.before.before.before.before.before.before.before.before.before.before.before.before.before.if1.false) c.before.before.before.before.before.before.before.before.before.before.before.before.before.number-line2.ensures (not-false _ c.before.before.before.before.before.before.before.before.before.before.before.if2.false) c.before.before.before.before.before.read-objects.result _ (rw c.before.before.before.before.before.before.before.before.before.put_next.ensures at c.before.before.before.before.before.read-objects.ensures) (not-true _ c.before.if3.true))
 
 -- src/lib.rt:512:38
 slice-aggregate-number-line-3 : tie.Need-slice-aggregate-number-line-3
@@ -94,13 +94,13 @@ same-length-2 c = (c.before.before.before.before.before.before.before.before.bef
 
 -- src/lib.rt:514:9
 returns-4 : tie.Need-returns-4
-unfolding numberLine number_of line
-returns-4 c = rw c.unread4.ensures (stop-4 c.before.before.before.before.before.before.before.before.before.before.before.before.before.before.before.before.before.before.before.before.before.before.before.before.before.args.text.now c.before.before.before.before.before.before.before.before.before.before.before.before.before.before.before.before.before.before.before.before.before.before.before.before.before.args.t.now _ c.before.before.before.before.before.before.before.before.before.before.before.before.before.before.before.before.before.before.before.before.before.number-line.ensures (not-false _ c.before.before.before.before.before.before.before.before.before.before.before.before.before.before.before.before.before.before.before.if1.false) c.before.before.before.before.before.before.before.before.before.before.before.before.before.before.before.before.before.number-line2.ensures (not-false _ c.before.before.before.before.before.before.before.before.before.before.before.before.before.before.before.if2.false) c.before.before.before.before.before.before.before.before.before.read-objects.result _ (rw c.before.before.before.before.before.before.before.before.before.before.before.before.before.put_next.ensures at c.before.before.before.before.before.before.before.before.before.read-objects.ensures) (not-false _ c.before.before.before.before.before.if3.false) c.before.before.before.number-line3.ensures (not-true _ c.before.if4.true))
+unfolding number_line number_of line
+returns-4 c = rw c.unread4.ensures (stop_4 c.before.before.before.before.before.before.before.before.before.before.before.before.before.before.before.before.before.before.before.before.before.before.before.before.before.args.text.now c.before.before.before.before.before.before.before.before.before.before.before.before.before.before.before.before.before.before.before.before.before.before.before.before.before.args.t.now _ c.before.before.before.before.before.before.before.before.before.before.before.before.before.before.before.before.before.before.before.before.before.number-line.ensures (not-false _ c.before.before.before.before.before.before.before.before.before.before.before.before.before.before.before.before.before.before.before.if1.false) c.before.before.before.before.before.before.before.before.before.before.before.before.before.before.before.before.before.number-line2.ensures (not-false _ c.before.before.before.before.before.before.before.before.before.before.before.before.before.before.before.if2.false) c.before.before.before.before.before.before.before.before.before.read-objects.result _ (rw c.before.before.before.before.before.before.before.before.before.before.before.before.before.put_next.ensures at c.before.before.before.before.before.before.before.before.before.read-objects.ensures) (not-false _ c.before.before.before.before.before.if3.false) c.before.before.before.number-line3.ensures (not-true _ c.before.if4.true))
 
 -- src/lib.rt:516:9
 read-waits-requires : tie.Need-read-waits-requires
-unfolding numberLine number_of line
-read-waits-requires c κs = let b = number-most "waits=" 0 waitPlaces c.before.before.before.before.before.before.before.before.before.before.before.before.before.before.before.before.before.before.before.before.before.before.before.before.before.args.text.now (drop c.before.before.before.before.before.before.before.before.before.read-objects.result.at c.before.before.before.before.before.before.before.before.before.before.before.before.before.before.before.before.before.before.before.before.before.before.before.before.before.args.text.now) c.before.before.before.number-line3.ensures (not-false _ c.before.if4.false) in (c.before.before.before.number-line3.ensures.within, (c.before.before.before.before.before.before.before.before.before.read-objects.ensures.size ∙ (ap length c.before.before.before.before.before.before.before.before.before.before.before.before.before.put_next.ensures ∙ length-set c.before.before.before.before.before.before.before.before.before.before.before.before.before.before.before.before.before.before.before.before.before.before.before.before.before.args.t.now 0 c.before.before.before.before.before.before.before.before.before.before.before.before.before.before.before.before.before.before.before.before.before.number-line.result.value)) ∙ c.before.before.before.before.before.before.before.before.before.before.before.before.before.before.before.before.before.before.before.before.before.before.before.before.before.requires, b)
+unfolding number_line number_of line
+read-waits-requires c κs = let b = number_most "waits=" 0 wait_places c.before.before.before.before.before.before.before.before.before.before.before.before.before.before.before.before.before.before.before.before.before.before.before.before.before.args.text.now (drop c.before.before.before.before.before.before.before.before.before.read-objects.result.at c.before.before.before.before.before.before.before.before.before.before.before.before.before.before.before.before.before.before.before.before.before.before.before.before.before.args.text.now) c.before.before.before.number-line3.ensures (not-false _ c.before.if4.false) in (c.before.before.before.number-line3.ensures.within, (c.before.before.before.before.before.before.before.before.before.read-objects.ensures.size ∙ (ap length c.before.before.before.before.before.before.before.before.before.before.before.before.before.put_next.ensures ∙ length-set c.before.before.before.before.before.before.before.before.before.before.before.before.before.before.before.before.before.before.before.before.before.before.before.before.before.args.t.now 0 c.before.before.before.before.before.before.before.before.before.before.before.before.before.before.before.before.before.before.before.before.before.number-line.result.value)) ∙ c.before.before.before.before.before.before.before.before.before.before.before.before.before.before.before.before.before.before.before.before.before.before.before.before.before.requires, b)
 
 -- src/lib.rt:518:9
 unread-requires-5 : tie.Need-unread-requires-5
@@ -112,8 +112,8 @@ same-length-3 c = (c.before.before.before.before.before.read-waits.ensures.size 
 
 -- src/lib.rt:518:9
 returns-5 : tie.Need-returns-5
-unfolding numberLine number_of line
-returns-5 c = rw c.unread5.ensures (stop-5 c.before.before.before.before.before.before.before.before.before.before.before.before.before.before.before.before.before.before.before.before.before.before.before.before.before.before.before.before.before.before.before.args.text.now c.before.before.before.before.before.before.before.before.before.before.before.before.before.before.before.before.before.before.before.before.before.before.before.before.before.before.before.before.before.before.before.args.t.now _ c.before.before.before.before.before.before.before.before.before.before.before.before.before.before.before.before.before.before.before.before.before.before.before.before.before.before.before.number-line.ensures (not-false _ c.before.before.before.before.before.before.before.before.before.before.before.before.before.before.before.before.before.before.before.before.before.before.before.before.before.if1.false) c.before.before.before.before.before.before.before.before.before.before.before.before.before.before.before.before.before.before.before.before.before.before.before.number-line2.ensures (not-false _ c.before.before.before.before.before.before.before.before.before.before.before.before.before.before.before.before.before.before.before.before.before.if2.false) c.before.before.before.before.before.before.before.before.before.before.before.before.before.before.before.read-objects.result _ (rw c.before.before.before.before.before.before.before.before.before.before.before.before.before.before.before.before.before.before.before.put_next.ensures at c.before.before.before.before.before.before.before.before.before.before.before.before.before.before.before.read-objects.ensures) (not-false _ c.before.before.before.before.before.before.before.before.before.before.before.if3.false) c.before.before.before.before.before.before.before.before.before.number-line3.ensures (not-false _ c.before.before.before.before.before.before.before.if4.false) c.before.before.before.before.before.read-waits.result _ c.before.before.before.before.before.read-waits.ensures (not-true _ c.before.if5.true))
+unfolding number_line number_of line
+returns-5 c = rw c.unread5.ensures (stop_5 c.before.before.before.before.before.before.before.before.before.before.before.before.before.before.before.before.before.before.before.before.before.before.before.before.before.before.before.before.before.before.before.args.text.now c.before.before.before.before.before.before.before.before.before.before.before.before.before.before.before.before.before.before.before.before.before.before.before.before.before.before.before.before.before.before.before.args.t.now _ c.before.before.before.before.before.before.before.before.before.before.before.before.before.before.before.before.before.before.before.before.before.before.before.before.before.before.before.number-line.ensures (not-false _ c.before.before.before.before.before.before.before.before.before.before.before.before.before.before.before.before.before.before.before.before.before.before.before.before.before.if1.false) c.before.before.before.before.before.before.before.before.before.before.before.before.before.before.before.before.before.before.before.before.before.before.before.number-line2.ensures (not-false _ c.before.before.before.before.before.before.before.before.before.before.before.before.before.before.before.before.before.before.before.before.before.if2.false) c.before.before.before.before.before.before.before.before.before.before.before.before.before.before.before.read-objects.result _ (rw c.before.before.before.before.before.before.before.before.before.before.before.before.before.before.before.before.before.before.before.put_next.ensures at c.before.before.before.before.before.before.before.before.before.before.before.before.before.before.before.read-objects.ensures) (not-false _ c.before.before.before.before.before.before.before.before.before.before.before.if3.false) c.before.before.before.before.before.before.before.before.before.number-line3.ensures (not-false _ c.before.before.before.before.before.before.before.if4.false) c.before.before.before.before.before.read-waits.result _ c.before.before.before.before.before.read-waits.ensures (not-true _ c.before.if5.true))
 
 -- src/lib.rt:520:38
 slice-aggregate-number-line-4 : tie.Need-slice-aggregate-number-line-4
@@ -133,8 +133,8 @@ same-length-4 c = (c.before.before.before.before.before.before.before.before.bef
 
 -- src/lib.rt:522:9
 returns-6 : tie.Need-returns-6
-unfolding numberLine number_of line
-returns-6 c = rw c.unread6.ensures (stop-6 c.before.before.before.before.before.before.before.before.before.before.before.before.before.before.before.before.before.before.before.before.before.before.before.before.before.before.before.before.before.before.before.before.before.before.before.args.text.now c.before.before.before.before.before.before.before.before.before.before.before.before.before.before.before.before.before.before.before.before.before.before.before.before.before.before.before.before.before.before.before.before.before.before.before.args.t.now _ c.before.before.before.before.before.before.before.before.before.before.before.before.before.before.before.before.before.before.before.before.before.before.before.before.before.before.before.before.before.before.before.number-line.ensures (not-false _ c.before.before.before.before.before.before.before.before.before.before.before.before.before.before.before.before.before.before.before.before.before.before.before.before.before.before.before.before.before.if1.false) c.before.before.before.before.before.before.before.before.before.before.before.before.before.before.before.before.before.before.before.before.before.before.before.before.before.before.before.number-line2.ensures (not-false _ c.before.before.before.before.before.before.before.before.before.before.before.before.before.before.before.before.before.before.before.before.before.before.before.before.before.if2.false) c.before.before.before.before.before.before.before.before.before.before.before.before.before.before.before.before.before.before.before.read-objects.result _ (rw c.before.before.before.before.before.before.before.before.before.before.before.before.before.before.before.before.before.before.before.before.before.before.before.put_next.ensures at c.before.before.before.before.before.before.before.before.before.before.before.before.before.before.before.before.before.before.before.read-objects.ensures) (not-false _ c.before.before.before.before.before.before.before.before.before.before.before.before.before.before.before.if3.false) c.before.before.before.before.before.before.before.before.before.before.before.before.before.number-line3.ensures (not-false _ c.before.before.before.before.before.before.before.before.before.before.before.if4.false) c.before.before.before.before.before.before.before.before.before.read-waits.result _ c.before.before.before.before.before.before.before.before.before.read-waits.ensures (not-false _ c.before.before.before.before.before.if5.false) c.before.before.before.number-line4.ensures (not-true _ c.before.if6.true))
+unfolding number_line number_of line
+returns-6 c = rw c.unread6.ensures (stop_6 c.before.before.before.before.before.before.before.before.before.before.before.before.before.before.before.before.before.before.before.before.before.before.before.before.before.before.before.before.before.before.before.before.before.before.before.args.text.now c.before.before.before.before.before.before.before.before.before.before.before.before.before.before.before.before.before.before.before.before.before.before.before.before.before.before.before.before.before.before.before.before.before.before.before.args.t.now _ c.before.before.before.before.before.before.before.before.before.before.before.before.before.before.before.before.before.before.before.before.before.before.before.before.before.before.before.before.before.before.before.number-line.ensures (not-false _ c.before.before.before.before.before.before.before.before.before.before.before.before.before.before.before.before.before.before.before.before.before.before.before.before.before.before.before.before.before.if1.false) c.before.before.before.before.before.before.before.before.before.before.before.before.before.before.before.before.before.before.before.before.before.before.before.before.before.before.before.number-line2.ensures (not-false _ c.before.before.before.before.before.before.before.before.before.before.before.before.before.before.before.before.before.before.before.before.before.before.before.before.before.if2.false) c.before.before.before.before.before.before.before.before.before.before.before.before.before.before.before.before.before.before.before.read-objects.result _ (rw c.before.before.before.before.before.before.before.before.before.before.before.before.before.before.before.before.before.before.before.before.before.before.before.put_next.ensures at c.before.before.before.before.before.before.before.before.before.before.before.before.before.before.before.before.before.before.before.read-objects.ensures) (not-false _ c.before.before.before.before.before.before.before.before.before.before.before.before.before.before.before.if3.false) c.before.before.before.before.before.before.before.before.before.before.before.before.before.number-line3.ensures (not-false _ c.before.before.before.before.before.before.before.before.before.before.before.if4.false) c.before.before.before.before.before.before.before.before.before.read-waits.result _ c.before.before.before.before.before.before.before.before.before.read-waits.ensures (not-false _ c.before.before.before.before.before.if5.false) c.before.before.before.number-line4.ensures (not-true _ c.before.if6.true))
 
 -- src/lib.rt:524:39
 slice-aggregate-byte-sum : tie.Need-slice-aggregate-byte-sum
@@ -154,8 +154,8 @@ same-length-5 c = (c.before.before.before.before.before.before.before.before.bef
 
 -- src/lib.rt:495:1
 returns-7 : tie.Need-returns-7
-unfolding numberLine number_of line
-returns-7 c = all-good c.before.before.before.before.before.before.before.before.before.before.before.before.before.before.before.before.before.before.before.before.before.before.before.before.before.before.before.before.before.before.before.before.before.before.before.before.before.before.before.before.before.args.text.now c.before.before.before.before.before.before.before.before.before.before.before.before.before.before.before.before.before.before.before.before.before.before.before.before.before.before.before.before.before.before.before.before.before.before.before.before.before.before.before.before.before.args.t.now c.before.before.before.before.before.before.before.before.before.before.before.before.before.before.before.before.before.before.before.before.before.before.before.before.before.before.before.before.before.before.before.before.before.before.before.before.before.before.before.before.before.args.t.now c.before.before.before.before.before.before.before.before.before.before.before.before.before.before.before.before.before.before.before.before.before.before.before.before.before.before.before.before.before.before.before.before.before.before.before.before.before.number-line.ensures (not-false _ c.before.before.before.before.before.before.before.before.before.before.before.before.before.before.before.before.before.before.before.before.before.before.before.before.before.before.before.before.before.before.before.before.before.before.before.if1.false) c.before.before.before.before.before.before.before.before.before.before.before.before.before.before.before.before.before.before.before.before.before.before.before.before.before.before.before.before.before.before.before.before.before.number-line2.ensures (not-false _ c.before.before.before.before.before.before.before.before.before.before.before.before.before.before.before.before.before.before.before.before.before.before.before.before.before.before.before.before.before.before.before.if2.false) c.before.before.before.before.before.before.before.before.before.before.before.before.before.before.before.before.before.before.before.before.before.before.before.before.before.read-objects.result _ (rw c.before.before.before.before.before.before.before.before.before.before.before.before.before.before.before.before.before.before.before.before.before.before.before.before.before.before.before.before.before.put_next.ensures at c.before.before.before.before.before.before.before.before.before.before.before.before.before.before.before.before.before.before.before.before.before.before.before.before.before.read-objects.ensures) (not-false _ c.before.before.before.before.before.before.before.before.before.before.before.before.before.before.before.before.before.before.before.before.before.if3.false) c.before.before.before.before.before.before.before.before.before.before.before.before.before.before.before.before.before.before.before.number-line3.ensures (not-false _ c.before.before.before.before.before.before.before.before.before.before.before.before.before.before.before.before.before.if4.false) c.before.before.before.before.before.before.before.before.before.before.before.before.before.before.before.read-waits.result _ c.before.before.before.before.before.before.before.before.before.before.before.before.before.before.before.read-waits.ensures (not-false _ c.before.before.before.before.before.before.before.before.before.before.before.if5.false) c.before.before.before.before.before.before.before.before.before.number-line4.ensures (not-false _ c.before.before.before.before.before.before.before.if6.false) c.before.before.before.before.wide.result (c.before.before.before.before.wide.ensures ∙ c.before.before.before.before.before.byte-sum.ensures)
+unfolding number_line number_of line
+returns-7 c = all_good c.before.before.before.before.before.before.before.before.before.before.before.before.before.before.before.before.before.before.before.before.before.before.before.before.before.before.before.before.before.before.before.before.before.before.before.before.before.before.before.before.before.args.text.now c.before.before.before.before.before.before.before.before.before.before.before.before.before.before.before.before.before.before.before.before.before.before.before.before.before.before.before.before.before.before.before.before.before.before.before.before.before.before.before.before.before.args.t.now c.before.before.before.before.before.before.before.before.before.before.before.before.before.before.before.before.before.before.before.before.before.before.before.before.before.before.before.before.before.before.before.before.before.before.before.before.before.before.before.before.before.args.t.now c.before.before.before.before.before.before.before.before.before.before.before.before.before.before.before.before.before.before.before.before.before.before.before.before.before.before.before.before.before.before.before.before.before.before.before.before.before.number-line.ensures (not-false _ c.before.before.before.before.before.before.before.before.before.before.before.before.before.before.before.before.before.before.before.before.before.before.before.before.before.before.before.before.before.before.before.before.before.before.before.if1.false) c.before.before.before.before.before.before.before.before.before.before.before.before.before.before.before.before.before.before.before.before.before.before.before.before.before.before.before.before.before.before.before.before.before.number-line2.ensures (not-false _ c.before.before.before.before.before.before.before.before.before.before.before.before.before.before.before.before.before.before.before.before.before.before.before.before.before.before.before.before.before.before.before.if2.false) c.before.before.before.before.before.before.before.before.before.before.before.before.before.before.before.before.before.before.before.before.before.before.before.before.before.read-objects.result _ (rw c.before.before.before.before.before.before.before.before.before.before.before.before.before.before.before.before.before.before.before.before.before.before.before.before.before.before.before.before.before.put_next.ensures at c.before.before.before.before.before.before.before.before.before.before.before.before.before.before.before.before.before.before.before.before.before.before.before.before.before.read-objects.ensures) (not-false _ c.before.before.before.before.before.before.before.before.before.before.before.before.before.before.before.before.before.before.before.before.before.if3.false) c.before.before.before.before.before.before.before.before.before.before.before.before.before.before.before.before.before.before.before.number-line3.ensures (not-false _ c.before.before.before.before.before.before.before.before.before.before.before.before.before.before.before.before.before.if4.false) c.before.before.before.before.before.before.before.before.before.before.before.before.before.before.before.read-waits.result _ c.before.before.before.before.before.before.before.before.before.before.before.before.before.before.before.read-waits.ensures (not-false _ c.before.before.before.before.before.before.before.before.before.before.before.if5.false) c.before.before.before.before.before.before.before.before.before.number-line4.ensures (not-false _ c.before.before.before.before.before.before.before.if6.false) c.before.before.before.before.wide.result (c.before.before.before.before.wide.ensures ∙ c.before.before.before.before.before.byte-sum.ensures)
 
 pub read-snapshot-spec : {M : Type 1} → statement M
 read-snapshot-spec =

@@ -1,11 +1,11 @@
-use Rattle.model.specs.Sizes.{maxListed}
-use Rattle.reader.proofs.Laws.{take-most}
+use Rattle.model.specs.Sizes.{max_listed}
+use Rattle.reader.proofs.Laws.{take_most}
 use borrow.Author.Tests.{not-true, not-false}
 use Prim.Native.Nat.{◌≤◌, ◌-◌}
 use mathlib.Core.Path.{◌≡◌, refl}
 use lib.ListN.{length}
 use Rattle.lines.proofs.Laws.{within_count}
-use Rattle.reader.proofs.Laws.{Queueing, queueing-start, queueing-stop, queueing-more, queueing-end, queued-here}
+use Rattle.reader.proofs.Laws.{Queueing, queueing_start, queueing_stop, queueing_more, queueing_end, queued_here}
 use native.Mathlib.Omega.{arith}
 use borrow.Author.Rules.{rules}
 use Rattle.reader.proofs.read_waits.Statement.{statement}
@@ -24,7 +24,7 @@ decreases-loop text at n t₀ pos₀ last₀ rising₀ p₀ t pos last rising p 
 
 -- src/lib.rt:535:5
 loop-holds : tie.Need-loop-init invariant-loop decreases-loop
-loop-holds c = (c.before.before.requires.0, refl, omega arith, queueing-start c.before.before.args.text.now c.before.before.args.at c.before.before.args.n c.before.before.args.t.now)
+loop-holds c = (c.before.before.requires.0, refl, omega arith, queueing_start c.before.before.args.text.now c.before.before.args.at c.before.before.args.n c.before.before.args.t.now)
 
 -- src/lib.rt:537:39
 slice-aggregate-read-wait : tie.Need-slice-aggregate-read-wait invariant-loop decreases-loop
@@ -40,7 +40,7 @@ same_length c = search rules
 
 -- src/lib.rt:539:13
 returns : tie.Need-returns invariant-loop decreases-loop
-returns c = queueing-stop c.before.before.before.before.before.before.before.before.before.args.text.now c.before.before.before.before.before.before.before.before.before.args.at c.before.before.before.before.before.before.before.before.before.args.n c.before.before.before.before.before.before.before.before.before.args.t.now c.before.before.before.before.before.before.loop.t c.before.before.before.before.before.before.loop.pos c.before.before.before.before.before.before.loop.last c.before.before.before.before.before.before.loop.rising c.before.before.before.before.before.before.loop.p c.before.before.before.before.before.before.loop.invariant.3 _ _ c.before.before.before.before.before.before.loop.invariant.1 c.before.before.before.before.before.loop-test.true c.before.before.before.read-wait.ensures.outcome (not-true _ c.if1.true) refl refl
+returns c = queueing_stop c.before.before.before.before.before.before.before.before.before.args.text.now c.before.before.before.before.before.before.before.before.before.args.at c.before.before.before.before.before.before.before.before.before.args.n c.before.before.before.before.before.before.before.before.before.args.t.now c.before.before.before.before.before.before.loop.t c.before.before.before.before.before.before.loop.pos c.before.before.before.before.before.before.loop.last c.before.before.before.before.before.before.loop.rising c.before.before.before.before.before.before.loop.p c.before.before.before.before.before.before.loop.invariant.3 _ _ c.before.before.before.before.before.before.loop.invariant.1 c.before.before.before.before.before.loop-test.true c.before.before.before.read-wait.ensures.outcome (not-true _ c.if1.true) refl refl
 
 -- src/lib.rt:543:9
 put-header-requires : tie.Need-put-header-requires invariant-loop decreases-loop
@@ -56,7 +56,7 @@ slice-aggregate-put-list c = let s = c.before.before.before.before.before.before
 
 -- src/lib.rt:544:9
 put-list-requires : tie.Need-put-list-requires invariant-loop decreases-loop
-put-list-requires c κs = let s = c.before.before.before.before.before.before.before.before.before.read-wait.ensures.size (not-false _ c.before.before.before.before.before.before.if1.false) in let b = c.before.before.before.before.before.before.before.before.before.before.before.loop-test.true in (omega (arith, c.before.before.before.before.before.before.before.before.before.before.before.before.before.before.before.requires.2), omega (arith, c.before.before.before.before.before.before.before.before.before.before.before.before.before.before.before.requires.1, c.before.before.before.before.before.before.before.before.before.before.before.before.loop.invariant.1), take-most c.before.before.before.before.before.before.before.before.before.read-wait.result.n maxListed _ s)
+put-list-requires c κs = let s = c.before.before.before.before.before.before.before.before.before.read-wait.ensures.size (not-false _ c.before.before.before.before.before.before.if1.false) in let b = c.before.before.before.before.before.before.before.before.before.before.before.loop-test.true in (omega (arith, c.before.before.before.before.before.before.before.before.before.before.before.before.before.before.before.requires.2), omega (arith, c.before.before.before.before.before.before.before.before.before.before.before.before.before.before.before.requires.1, c.before.before.before.before.before.before.before.before.before.before.before.before.loop.invariant.1), take_most c.before.before.before.before.before.before.before.before.before.read-wait.result.n max_listed _ s)
 
 -- src/lib.rt:548:9
 add-p : tie.Need-overflow-add-p invariant-loop decreases-loop
@@ -68,7 +68,7 @@ loop-less c = search rules
 
 -- src/lib.rt:535:5
 loop-again : tie.Need-loop-preserved invariant-loop decreases-loop
-loop-again c = let s = c.before.before.before.before.before.before.before.before.before.before.before.before.read-wait.ensures.size (not-false _ c.before.before.before.before.before.before.before.before.before.if1.false) in (c.before.before.before.before.before.before.before.before.before.before.before.before.read-wait.ensures.outcome.within, omega (arith, c.before.before.before.before.before.before.before.before.before.before.before.before.before.before.before.loop.invariant.1), omega arith, queueing-more c.before.before.before.before.before.before.before.before.before.before.before.before.before.before.before.before.before.before.args.text.now c.before.before.before.before.before.before.before.before.before.before.before.before.before.before.before.before.before.before.args.at c.before.before.before.before.before.before.before.before.before.before.before.before.before.before.before.before.before.before.args.n c.before.before.before.before.before.before.before.before.before.before.before.before.before.before.before.before.before.before.args.t.now c.before.before.before.before.before.before.before.before.before.before.before.before.before.before.before.loop.t c.before.before.before.before.before.before.before.before.before.before.before.before.before.before.before.loop.pos c.before.before.before.before.before.before.before.before.before.before.before.before.before.before.before.loop.last c.before.before.before.before.before.before.before.before.before.before.before.before.before.before.before.loop.rising c.before.before.before.before.before.before.before.before.before.before.before.before.before.before.before.loop.p c.before.before.before.before.before.before.before.before.before.before.before.before.before.before.before.loop.invariant.3 _ _ c.before.before.before.before.before.before.before.before.before.before.before.before.before.before.loop-test.true c.before.before.before.before.before.before.before.before.before.before.before.before.read-wait.ensures.outcome (not-false _ c.before.before.before.before.before.before.before.before.before.if1.false) (queued-here c.before.before.before.before.before.before.before.before.before.before.before.before.read-wait.result _ c.before.before.before.before.before.before.before.before.before.before.before.before.before.before.before.loop.t _ _ c.before.before.before.before.before.before.before.before.before.before.before.before.before.before.before.loop.p (c.before.before.before.before.before.before.before.before.before.before.before.before.read-wait.ensures.cell (not-false _ c.before.before.before.before.before.before.before.before.before.if1.false)) (within_count _ _ (omega arith)) c.before.before.before.before.before.before.before.put-header.ensures c.before.before.put-list.ensures))
+loop-again c = let s = c.before.before.before.before.before.before.before.before.before.before.before.before.read-wait.ensures.size (not-false _ c.before.before.before.before.before.before.before.before.before.if1.false) in (c.before.before.before.before.before.before.before.before.before.before.before.before.read-wait.ensures.outcome.within, omega (arith, c.before.before.before.before.before.before.before.before.before.before.before.before.before.before.before.loop.invariant.1), omega arith, queueing_more c.before.before.before.before.before.before.before.before.before.before.before.before.before.before.before.before.before.before.args.text.now c.before.before.before.before.before.before.before.before.before.before.before.before.before.before.before.before.before.before.args.at c.before.before.before.before.before.before.before.before.before.before.before.before.before.before.before.before.before.before.args.n c.before.before.before.before.before.before.before.before.before.before.before.before.before.before.before.before.before.before.args.t.now c.before.before.before.before.before.before.before.before.before.before.before.before.before.before.before.loop.t c.before.before.before.before.before.before.before.before.before.before.before.before.before.before.before.loop.pos c.before.before.before.before.before.before.before.before.before.before.before.before.before.before.before.loop.last c.before.before.before.before.before.before.before.before.before.before.before.before.before.before.before.loop.rising c.before.before.before.before.before.before.before.before.before.before.before.before.before.before.before.loop.p c.before.before.before.before.before.before.before.before.before.before.before.before.before.before.before.loop.invariant.3 _ _ c.before.before.before.before.before.before.before.before.before.before.before.before.before.before.loop-test.true c.before.before.before.before.before.before.before.before.before.before.before.before.read-wait.ensures.outcome (not-false _ c.before.before.before.before.before.before.before.before.before.if1.false) (queued_here c.before.before.before.before.before.before.before.before.before.before.before.before.read-wait.result _ c.before.before.before.before.before.before.before.before.before.before.before.before.before.before.before.loop.t _ _ c.before.before.before.before.before.before.before.before.before.before.before.before.before.before.before.loop.p (c.before.before.before.before.before.before.before.before.before.before.before.before.read-wait.ensures.cell (not-false _ c.before.before.before.before.before.before.before.before.before.if1.false)) (within_count _ _ (omega arith)) c.before.before.before.before.before.before.before.put-header.ensures c.before.before.put-list.ensures))
 
 -- src/lib.rt:527:1
 same-length-2 : tie.Need-same-length-2 invariant-loop decreases-loop
@@ -76,7 +76,7 @@ same-length-2 c = search rules
 
 -- src/lib.rt:527:1
 returns-2 : tie.Need-returns-2 invariant-loop decreases-loop
-returns-2 c = queueing-end c.before.before.before.before.args.text.now c.before.before.before.before.args.at c.before.before.before.before.args.n c.before.before.before.before.args.t.now c.before.loop.t c.before.loop.pos c.before.loop.last c.before.loop.rising c.before.loop.p c.before.loop.invariant.3 _ c.before.loop.invariant.1 (omega arith) c.before.loop.invariant.0 refl refl refl
+returns-2 c = queueing_end c.before.before.before.before.args.text.now c.before.before.before.before.args.at c.before.before.before.before.args.n c.before.before.before.before.args.t.now c.before.loop.t c.before.loop.pos c.before.loop.last c.before.loop.rising c.before.loop.p c.before.loop.invariant.3 _ c.before.loop.invariant.1 (omega arith) c.before.loop.invariant.0 refl refl refl
 
 pub read-waits-spec : {M : Type 1} → statement M
 read-waits-spec =

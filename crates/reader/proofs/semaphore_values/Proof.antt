@@ -3,10 +3,10 @@ use Rattle.model.proofs.Logic.{clash}
 use borrow.Author.Tests.{not-true, not-false}
 use Rattle.model.specs.Objects.{semaphore}
 use Rattle.model.specs.Snapshot.{line}
-use Rattle.model.specs.Reading.{numberLine, number32Line, readValues}
+use Rattle.model.specs.Reading.{number_line, number32_line, read_values}
 use Rattle.lines.specs.Outcome.{number_of}
 use lib.ListN.{drop}
-use Rattle.lines.proofs.Laws.{seq-stop, seq_on, seq-last}
+use Rattle.lines.proofs.Laws.{seq_stop, seq_on, seq_last}
 use native.Mathlib.Omega.{arith}
 use borrow.Author.Rules.{rules}
 use Rattle.reader.proofs.semaphore_values.Statement.{statement}
@@ -30,8 +30,8 @@ no-values-requires c κs = search rules
 
 -- src/lib.rt:61:9
 returns : tie.Need-returns
-unfolding readValues numberLine number_of line
-returns c = rw c.no-values.ensures (record { outcome = seq-stop c.before.before.before.before.before.before.args.text.now (number32Line "count=") _ (drop c.before.before.before.before.before.before.args.at c.before.before.before.before.before.before.args.text.now) c.before.before.before.number-line.ensures (semaphore 0 0) (not-true _ c.before.if1.true); cells = λ y. clash y refl })
+unfolding read_values number_line number_of line
+returns c = rw c.no-values.ensures (record { outcome = seq_stop c.before.before.before.before.before.before.args.text.now (number32_line "count=") _ (drop c.before.before.before.before.before.before.args.at c.before.before.before.before.before.before.args.text.now) c.before.before.before.number-line.ensures (semaphore 0 0) (not-true _ c.before.if1.true); cells = λ y. clash y refl })
 
 -- src/lib.rt:63:37
 slice-aggregate-number-line-2 : tie.Need-slice-aggregate-number-line-2
@@ -43,8 +43,8 @@ number-line-requires-2 c κs = search rules
 
 -- src/lib.rt:55:1
 returns-2 : tie.Need-returns-2
-unfolding readValues numberLine number_of line
-returns-2 c = record { outcome = seq_on c.before.before.before.before.before.before.before.args.text.now (number32Line "count=") _ (drop c.before.before.before.before.before.before.before.args.at c.before.before.before.before.before.before.before.args.text.now) c.before.before.before.before.number-line.ensures (not-false _ c.before.before.if1.false) (seq-last c.before.before.before.before.before.before.before.args.text.now (number32Line "max=") (λ m. semaphore c.before.before.before.before.number-line.result.value m) (drop c.before.before.before.before.number-line.result.at c.before.before.before.before.before.before.before.args.text.now) c.number-line2.ensures); cells = λ y. refl }
+unfolding read_values number_line number_of line
+returns-2 c = record { outcome = seq_on c.before.before.before.before.before.before.before.args.text.now (number32_line "count=") _ (drop c.before.before.before.before.before.before.before.args.at c.before.before.before.before.before.before.before.args.text.now) c.before.before.before.before.number-line.ensures (not-false _ c.before.before.if1.false) (seq_last c.before.before.before.before.before.before.before.args.text.now (number32_line "max=") (λ m. semaphore c.before.before.before.before.number-line.result.value m) (drop c.before.before.before.before.number-line.result.at c.before.before.before.before.before.before.before.args.text.now) c.number-line2.ensures); cells = λ y. refl }
 
 pub semaphore-values-spec : {M : Type 1} → statement M
 semaphore-values-spec =

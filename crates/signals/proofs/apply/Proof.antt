@@ -1,5 +1,5 @@
-use Rattle.signals.proofs.Laws.{apply-refused, apply-done}
-use Rattle.kinds.specs.Values.{changeOf}
+use Rattle.signals.proofs.Laws.{apply_refused, apply_done}
+use Rattle.kinds.specs.Values.{change_of}
 use native.Mathlib.Omega.{arith}
 use borrow.Author.Rules.{rules}
 use Rattle.signals.proofs.apply.Statement.{statement}
@@ -11,7 +11,7 @@ use Rattle.walk.proofs.wake.Reads as wake-reads
 
 -- src/lib.rt:31:9
 returns : tie.Need-returns
-returns c = let a = c.before.before.before.before.args in apply-refused a.t.now a.wake.now a.h (changeOf a.c) a.previous c.if1.true
+returns c = let a = c.before.before.before.before.args in apply_refused a.t.now a.wake.now a.h (change_of a.c) a.previous c.if1.true
 
 -- src/lib.rt:37:5
 store-requires : tie.Need-store-requires
@@ -35,7 +35,7 @@ same-length-2 c = search rules
 
 -- src/lib.rt:26:1
 returns-2 : tie.Need-returns-2
-returns-2 c = let a = c.before.before.before.before.before.before.before.before.before.before.before.before.before.before.before.args in apply-done a.t.now a.wake.now a.h (changeOf a.c) a.previous c.before.before.before.before.before.before.before.before.before.before.before.if1.false c.before.before.before.before.before.before.before.before.before.store.ensures c.before.before.before.before.wake.ensures.0
+returns-2 c = let a = c.before.before.before.before.before.before.before.before.before.before.before.before.before.before.before.args in apply_done a.t.now a.wake.now a.h (change_of a.c) a.previous c.before.before.before.before.before.before.before.before.before.before.before.if1.false c.before.before.before.before.before.before.before.before.before.store.ensures c.before.before.before.before.wake.ensures.0
 
 pub apply-spec : {M : Type 1} → statement M
 apply-spec =

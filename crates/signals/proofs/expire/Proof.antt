@@ -1,4 +1,4 @@
-use Rattle.signals.proofs.Laws.{expire-refused, expire-done}
+use Rattle.signals.proofs.Laws.{expire_refused, expire_done}
 use native.Mathlib.Omega.{arith}
 use borrow.Author.Rules.{rules}
 use Rattle.signals.proofs.expire.Statement.{statement}
@@ -9,7 +9,7 @@ use Rattle.ending.proofs.end_due.Reads as end-due-reads
 
 -- src/lib.rt:106:9
 returns : tie.Need-returns
-returns c = let a = c.before.before.before.args in expire-refused a.clock a.time a.t.now a.wake.now c.if1.true
+returns c = let a = c.before.before.before.args in expire_refused a.clock a.time a.t.now a.wake.now c.if1.true
 
 -- src/lib.rt:112:9
 end-due-requires : tie.Need-end-due-requires
@@ -29,7 +29,7 @@ same-length-2 c = search rules
 
 -- src/lib.rt:101:1
 returns-2 : tie.Need-returns-2
-returns-2 c = let a = c.before.before.before.before.before.before.before.before.before.before.args in expire-done a.clock a.time a.t.now a.wake.now c.before.before.before.before.before.before.before.if1.false c.before.before.before.before.end-due.ensures.0
+returns-2 c = let a = c.before.before.before.before.before.before.before.before.before.before.args in expire_done a.clock a.time a.t.now a.wake.now c.before.before.before.before.before.before.before.if1.false c.before.before.before.before.end-due.ensures.0
 
 pub expire-spec : {M : Type 1} → statement M
 expire-spec =

@@ -1,5 +1,5 @@
-use Rattle.signals.proofs.Laws.{signal-is}
-use Rattle.cells.specs.Objects.{killFields}
+use Rattle.signals.proofs.Laws.{signal_is}
+use Rattle.cells.specs.Objects.{kill_fields}
 use native.Mathlib.Omega.{arith}
 use borrow.Author.Rules.{rules}
 use Rattle.signals.proofs.kill.Statement.{statement}
@@ -32,7 +32,7 @@ same-length-2 c = search rules
 
 -- src/lib.rt:66:1
 returns : tie.Need-returns
-returns c = let a = c.before.before.before.before.before.before.before.before.before.before.before.before.args in signal-is a.t.now a.wake.now a.h (killFields a.asking) (λ x. 0) c.before.before.before.before.before.before.before.before.named.ensures c.before.before.before.before.before.before.before.kill.ensures c.before.before.before.before.apply.ensures
+returns c = let a = c.before.before.before.before.before.before.before.before.before.before.before.before.args in signal_is a.t.now a.wake.now a.h (kill_fields a.asking) (λ x. 0) c.before.before.before.before.before.before.before.before.named.ensures c.before.before.before.before.before.before.before.kill.ensures c.before.before.before.before.apply.ensures
 
 pub kill-spec : {M : Type 1} → statement M
 kill-spec =

@@ -1,6 +1,6 @@
-use Rattle.signals.proofs.Laws.{signal-is}
+use Rattle.signals.proofs.Laws.{signal_is}
 use Rattle.refine.proofs.Validity.{small_of}
-use Rattle.cells.specs.Objects.{postFields}
+use Rattle.cells.specs.Objects.{post_fields}
 use Rattle.kinds.specs.Values.{cells_of}
 use native.Mathlib.Omega.{arith}
 use borrow.Author.Rules.{rules}
@@ -38,7 +38,7 @@ same-length-2 c = search rules
 
 -- src/lib.rt:46:1
 returns : tie.Need-returns
-returns c = let a = c.before.before.before.before.before.before.before.before.before.before.before.before.before.args in signal-is a.t.now a.wake.now a.h (postFields a.add) (λ x. x.count) c.before.before.before.before.before.before.before.before.before.named.ensures c.before.before.before.before.before.before.before.post.ensures c.before.before.before.before.apply.ensures
+returns c = let a = c.before.before.before.before.before.before.before.before.before.before.before.before.before.args in signal_is a.t.now a.wake.now a.h (post_fields a.add) (λ x. x.count) c.before.before.before.before.before.before.before.before.before.named.ensures c.before.before.before.before.before.before.before.post.ensures c.before.before.before.before.apply.ensures
 
 pub post-spec : {M : Type 1} → statement M
 post-spec =

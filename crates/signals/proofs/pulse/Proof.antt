@@ -1,6 +1,6 @@
-use Rattle.signals.proofs.Laws.{pulse-refused, pulse-done}
+use Rattle.signals.proofs.Laws.{pulse_refused, pulse_done}
 use Rattle.cells.specs.Objects.{named}
-use Rattle.kinds.specs.Values.{changeOf}
+use Rattle.kinds.specs.Values.{change_of}
 use native.Mathlib.Omega.{arith}
 use borrow.Author.Rules.{rules}
 use Rattle.signals.proofs.pulse.Statement.{statement}
@@ -26,7 +26,7 @@ same-length-2 c = search rules
 
 -- src/lib.rt:92:9
 returns : tie.Need-returns
-returns c = let a = c.before.before.before.before.before.before.before.before.before.before.before.args in pulse-refused a.t.now a.wake.now a.h (named a.t.now a.h) _ c.before.before.before.before.before.before.set.ensures c.if1.true
+returns c = let a = c.before.before.before.before.before.before.before.before.before.before.before.args in pulse_refused a.t.now a.wake.now a.h (named a.t.now a.h) _ c.before.before.before.before.before.before.set.ensures c.if1.true
 
 -- src/lib.rt:94:9
 named-requires : tie.Need-named-requires
@@ -50,7 +50,7 @@ same-length-4 c = search rules
 
 -- src/lib.rt:86:1
 returns-2 : tie.Need-returns-2
-returns-2 c = let a = c.before.before.before.before.before.before.before.before.before.before.before.before.before.before.before.before.before.before.args in pulse-done a.t.now a.wake.now a.h (named a.t.now a.h) _ c.before.before.before.before.before.before.before.before.before.before.before.before.before.set.ensures c.before.before.before.before.before.before.before.if1.false (changeOf c.before.before.before.before.switch.result) c.before.before.before.before.before.named.ensures c.before.before.before.before.switch.ensures c.before.before.store.ensures
+returns-2 c = let a = c.before.before.before.before.before.before.before.before.before.before.before.before.before.before.before.before.before.before.args in pulse_done a.t.now a.wake.now a.h (named a.t.now a.h) _ c.before.before.before.before.before.before.before.before.before.before.before.before.before.set.ensures c.before.before.before.before.before.before.before.if1.false (change_of c.before.before.before.before.switch.result) c.before.before.before.before.before.named.ensures c.before.before.before.before.switch.ensures c.before.before.store.ensures
 
 pub pulse-spec : {M : Type 1} → statement M
 pulse-spec =

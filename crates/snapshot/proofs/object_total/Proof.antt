@@ -1,9 +1,9 @@
-use Rattle.snapshot.proofs.Laws.{one-low, counted, counted-more, counted_none}
+use Rattle.snapshot.proofs.Laws.{one_low, counted, counted_more, counted_none}
 use lib.Dec.{ltb}
-use Rattle.model.specs.Sizes.{objectPlaces}
+use Rattle.model.specs.Sizes.{object_places}
 use mathlib.Core.Path.{◌≡◌, ap}
 use Prim.Native.Nat.{ℕ, ◌-◌, ◌≤◌}
-use Rattle.cells.specs.Snapshot.{objectTotal}
+use Rattle.cells.specs.Snapshot.{object_total}
 use Rattle.cells.specs.Objects.{Fields, fields_at}
 use native.Mathlib.Omega.{arith}
 use borrow.Author.Rules.{rules}
@@ -15,10 +15,10 @@ use Rattle.snapshot.proofs.one_if.Reads as one-if-reads
 use Rattle.tables.proofs.object_at.Reads as object-at-reads
 
 abbrev invariant-loop : tie.invariant-loop
-invariant-loop t total₀ p₀ total p = (p ≤ objectPlaces) × (total ≤ p) × (total ≡ counted (λ i. ltb 0 (fields_at t i).kind) p)
+invariant-loop t total₀ p₀ total p = (p ≤ object_places) × (total ≤ p) × (total ≡ counted (λ i. ltb 0 (fields_at t i).kind) p)
 
 abbrev decreases-loop : tie.decreases-loop
-decreases-loop t total₀ p₀ total p = objectPlaces - p
+decreases-loop t total₀ p₀ total p = object_places - p
 
 -- src/lib.rt:102:5
 loop-holds : tie.Need-loop-init invariant-loop decreases-loop
@@ -34,7 +34,7 @@ one-if-requires c κs = search rules
 
 -- src/lib.rt:105:9
 add_total : tie.Need-overflow-add-total invariant-loop decreases-loop
-add_total c = omega (arith, c.before.before.before.before.loop.invariant.1, c.before.before.before.before.loop.invariant.0, one-low (ltb 0 c.before.before.object-at.result.kind) c.one-if.ensures)
+add_total c = omega (arith, c.before.before.before.before.loop.invariant.1, c.before.before.before.before.loop.invariant.0, one_low (ltb 0 c.before.before.object-at.result.kind) c.one-if.ensures)
 
 -- src/lib.rt:106:9
 add-p : tie.Need-overflow-add-p invariant-loop decreases-loop
@@ -46,12 +46,12 @@ loop-less c = search rules
 
 -- src/lib.rt:102:5
 loop-again : tie.Need-loop-preserved invariant-loop decreases-loop
-loop-again c = let a = c.before.before.before.before.before.before.args in (search rules, omega (arith, c.before.before.before.before.loop.invariant.1, one-low (ltb 0 c.before.before.object-at.result.kind) c.one-if.ensures), counted-more (λ p. ltb 0 (fields_at a.t.now p).kind) c.before.before.before.before.loop.p c.before.before.before.before.loop.invariant.2 (ap (λ (x : Fields). ltb 0 x.kind) c.before.before.object-at.ensures) c.one-if.ensures)
+loop-again c = let a = c.before.before.before.before.before.before.args in (search rules, omega (arith, c.before.before.before.before.loop.invariant.1, one_low (ltb 0 c.before.before.object-at.result.kind) c.one-if.ensures), counted_more (λ p. ltb 0 (fields_at a.t.now p).kind) c.before.before.before.before.loop.p c.before.before.before.before.loop.invariant.2 (ap (λ (x : Fields). ltb 0 x.kind) c.before.before.object-at.ensures) c.one-if.ensures)
 
 -- src/lib.rt:96:1
 returns : tie.Need-returns invariant-loop decreases-loop
-unfolding objectTotal
-returns c = let e : c.before.loop.p ≡ objectPlaces = omega arith in rw e at c.before.loop.invariant.2
+unfolding object_total
+returns c = let e : c.before.loop.p ≡ object_places = omega arith in rw e at c.before.loop.invariant.2
 
 pub object-total-spec : {M : Type 1} → statement M
 object-total-spec =

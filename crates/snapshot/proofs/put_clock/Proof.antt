@@ -1,4 +1,4 @@
-use Rattle.snapshot.proofs.Laws.{zero_room, zero-wrote, other-room, other-wrote}
+use Rattle.snapshot.proofs.Laws.{zero_room, zero_wrote, other_room, other_wrote}
 use Rattle.model.specs.Snapshot.{ascii}
 use native.Mathlib.Omega.{arith}
 use borrow.Author.Rules.{rules}
@@ -22,7 +22,7 @@ same_length c = search rules
 
 -- src/lib.rt:131:9
 returns : tie.Need-returns
-returns c = let s = c.before.before.before.before.before.before.before in zero-wrote s.args.clock (ascii "clock=mono\n") (ascii "clock=real\n") s.args.buf.now s.args.at c.before.before.before.before.before.if1.true c.before.before.put-text.ensures
+returns c = let s = c.before.before.before.before.before.before.before in zero_wrote s.args.clock (ascii "clock=mono\n") (ascii "clock=real\n") s.args.buf.now s.args.at c.before.before.before.before.before.if1.true c.before.before.put-text.ensures
 
 -- src/lib.rt:133:23
 slice-aggregate-put-text-2 : tie.Need-slice-aggregate-put-text-2
@@ -30,7 +30,7 @@ slice-aggregate-put-text-2 c = search rules
 
 -- src/lib.rt:133:5
 put-text-requires-2 : tie.Need-put-text-requires-2
-put-text-requires-2 c κs = let s = c.before.before.before.before in other-room s.args.clock (ascii "clock=mono\n") (ascii "clock=real\n") s.args.buf.now s.args.at c.before.before.if1.false s.requires
+put-text-requires-2 c κs = let s = c.before.before.before.before in other_room s.args.clock (ascii "clock=mono\n") (ascii "clock=real\n") s.args.buf.now s.args.at c.before.before.if1.false s.requires
 
 -- src/lib.rt:126:1
 same-length-2 : tie.Need-same-length-2
@@ -38,7 +38,7 @@ same-length-2 c = search rules
 
 -- src/lib.rt:126:1
 returns-2 : tie.Need-returns-2
-returns-2 c = let s = c.before.before.before.before.before.before.before in other-wrote s.args.clock (ascii "clock=mono\n") (ascii "clock=real\n") s.args.buf.now s.args.at c.before.before.before.before.before.if1.false c.before.before.put-text2.ensures
+returns-2 c = let s = c.before.before.before.before.before.before.before in other_wrote s.args.clock (ascii "clock=mono\n") (ascii "clock=real\n") s.args.buf.now s.args.at c.before.before.before.before.before.if1.false c.before.before.put-text2.ensures
 
 pub put-clock-spec : {M : Type 1} → statement M
 put-clock-spec =

@@ -1,5 +1,5 @@
 -- Four texts end to end.
-use Rattle.snapshot.proofs.Laws.{room-first, room-second, room-third, room-fourth, wrote-four}
+use Rattle.snapshot.proofs.Laws.{room_first, room_second, room_third, room_fourth, wrote_four}
 use Rattle.model.specs.Snapshot.{ascii, line}
 use mathlib.Core.List.{List}
 use Prim.Native.Nat.{ℕ}
@@ -26,7 +26,7 @@ slice-aggregate-put-line c = search rules
 put-line-requires : tie.Need-put-line-requires
 unfolding line
 put-line-requires c κs = let s = c.before.before.before in
-    room-first s.args.buf.now s.args.at (handle s) kind (count s) (attribute s) s.requires
+    room_first s.args.buf.now s.args.at (handle s) kind (count s) (attribute s) s.requires
 
 slice-aggregate-put-text : tie.Need-slice-aggregate-put-text
 slice-aggregate-put-text c = search rules
@@ -34,7 +34,7 @@ slice-aggregate-put-text c = search rules
 put-text-requires : tie.Need-put-text-requires
 unfolding line
 put-text-requires c κs = let s = c.before.before.before.before.before.before.before.before in
-    room-second s.args.buf.now s.args.at (handle s) kind (count s) (attribute s) s.requires c.before.before.before.before.put-line.ensures
+    room_second s.args.buf.now s.args.at (handle s) kind (count s) (attribute s) s.requires c.before.before.before.before.put-line.ensures
 
 slice-aggregate-put-line-2 : tie.Need-slice-aggregate-put-line-2
 slice-aggregate-put-line-2 c = search rules
@@ -42,7 +42,7 @@ slice-aggregate-put-line-2 c = search rules
 put-line-requires-2 : tie.Need-put-line-requires-2
 unfolding line
 put-line-requires-2 c κs = let s = c.before.before.before.before.before.before.before.before.before.before.before.before.before in
-    room-third s.args.buf.now s.args.at (handle s) kind (count s) (attribute s) s.requires c.before.before.before.before.before.before.before.before.before.put-line.ensures c.before.before.before.before.put-text.ensures
+    room_third s.args.buf.now s.args.at (handle s) kind (count s) (attribute s) s.requires c.before.before.before.before.before.before.before.before.before.put-line.ensures c.before.before.before.before.put-text.ensures
 
 slice-aggregate-put-line-3 : tie.Need-slice-aggregate-put-line-3
 slice-aggregate-put-line-3 c = search rules
@@ -50,7 +50,7 @@ slice-aggregate-put-line-3 c = search rules
 put-line-requires-3 : tie.Need-put-line-requires-3
 unfolding line
 put-line-requires-3 c κs = let s = c.before.before.before.before.before.before.before.before.before.before.before.before.before.before.before.before.before.before in
-    room-fourth s.args.buf.now s.args.at (handle s) kind (count s) (attribute s) s.requires c.before.before.before.before.before.before.before.before.before.before.before.before.before.before.put-line.ensures c.before.before.before.before.before.before.before.before.before.put-text.ensures c.before.before.before.before.put-line2.ensures
+    room_fourth s.args.buf.now s.args.at (handle s) kind (count s) (attribute s) s.requires c.before.before.before.before.before.before.before.before.before.before.before.before.before.before.put-line.ensures c.before.before.before.before.before.before.before.before.before.put-text.ensures c.before.before.before.before.put-line2.ensures
 
 same_length : tie.Need-same-length
 same_length c = search rules
@@ -58,7 +58,7 @@ same_length c = search rules
 returns : tie.Need-returns
 unfolding line
 returns c = let s = c.before.before.before.before.before.before.before.before.before.before.before.before.before.before.before.before.before.before.before.before.before in
-    wrote-four s.args.buf.now s.args.at (handle s) kind (count s) (attribute s) s.requires c.before.before.before.before.before.before.before.before.before.before.before.before.before.before.before.before.before.put-line.ensures c.before.before.before.before.before.before.before.before.before.before.before.before.put-text.ensures c.before.before.before.before.before.before.before.put-line2.ensures c.before.before.put-line3.ensures
+    wrote_four s.args.buf.now s.args.at (handle s) kind (count s) (attribute s) s.requires c.before.before.before.before.before.before.before.before.before.before.before.before.before.before.before.before.before.put-line.ensures c.before.before.before.before.before.before.before.before.before.before.before.before.put-text.ensures c.before.before.before.before.before.before.before.put-line2.ensures c.before.before.put-line3.ensures
 
 pub put-semaphore-spec : {M : Type 1} → statement M
 put-semaphore-spec =

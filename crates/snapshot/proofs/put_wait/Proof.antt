@@ -1,4 +1,4 @@
-use Rattle.snapshot.proofs.Laws.{wait-lines}
+use Rattle.snapshot.proofs.Laws.{wait_lines_lem}
 use native.Mathlib.Omega.{arith}
 use borrow.Author.Rules.{rules}
 use Rattle.snapshot.proofs.put_wait.Statement.{statement}
@@ -44,7 +44,7 @@ list-of-requires c κs = search rules
 
 -- src/lib.rt:205:5
 put-lines-requires : tie.Need-put-lines-requires
-put-lines-requires c κs = let a = c.before.before.before.before.before.before.before.before.before.before.args in rw (wait-lines a.t.now a.p c.before.before.before.before.before.before.before.ticket-at.ensures c.before.before.before.before.before.before.mode-at.ensures c.before.before.before.before.before.owner_at.ensures c.before.before.before.before.clock-at.ensures c.before.before.before.timeout-at.ensures c.before.before.alert-at.ensures c.before.list-of.ensures) c.before.before.before.before.before.before.before.before.before.before.requires.2
+put-lines-requires c κs = let a = c.before.before.before.before.before.before.before.before.before.before.args in rw (wait_lines_lem a.t.now a.p c.before.before.before.before.before.before.before.ticket-at.ensures c.before.before.before.before.before.before.mode-at.ensures c.before.before.before.before.before.owner_at.ensures c.before.before.before.before.clock-at.ensures c.before.before.before.timeout-at.ensures c.before.before.alert-at.ensures c.before.list-of.ensures) c.before.before.before.before.before.before.before.before.before.before.requires.2
 
 -- src/lib.rt:194:1
 same_length : tie.Need-same-length
@@ -52,7 +52,7 @@ same_length c = search rules
 
 -- src/lib.rt:194:1
 returns : tie.Need-returns
-returns c = let a = c.before.before.before.before.before.before.before.before.before.before.before.before.before.args in rw (wait-lines a.t.now a.p c.before.before.before.before.before.before.before.before.before.before.ticket-at.ensures c.before.before.before.before.before.before.before.before.before.mode-at.ensures c.before.before.before.before.before.before.before.before.owner_at.ensures c.before.before.before.before.before.before.before.clock-at.ensures c.before.before.before.before.before.before.timeout-at.ensures c.before.before.before.before.before.alert-at.ensures c.before.before.before.before.list-of.ensures) at c.before.before.put-lines.ensures
+returns c = let a = c.before.before.before.before.before.before.before.before.before.before.before.before.before.args in rw (wait_lines_lem a.t.now a.p c.before.before.before.before.before.before.before.before.before.before.ticket-at.ensures c.before.before.before.before.before.before.before.before.before.mode-at.ensures c.before.before.before.before.before.before.before.before.owner_at.ensures c.before.before.before.before.before.before.before.clock-at.ensures c.before.before.before.before.before.before.timeout-at.ensures c.before.before.before.before.before.alert-at.ensures c.before.before.before.before.list-of.ensures) at c.before.before.put-lines.ensures
 
 pub put-wait-spec : {M : Type 1} → statement M
 put-wait-spec =

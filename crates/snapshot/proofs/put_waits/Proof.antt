@@ -1,9 +1,9 @@
-use Rattle.snapshot.proofs.Laws.{wrote_none, rest_end, rest-none, rest_more}
-use Rattle.decimal.proofs.Laws.{first-room, then-room, then-wrote}
+use Rattle.snapshot.proofs.Laws.{wrote_none, rest_end, rest_none, rest_more}
+use Rattle.decimal.proofs.Laws.{first_room, then_room, then_wrote}
 use Rattle.decimal.specs.Text.{Room, Wrote}
-use Rattle.cells.specs.Snapshot.{waitTextAt, waitsTextFrom}
-use Rattle.cells.specs.Waits.{ticketAt}
-use Rattle.model.specs.Sizes.{waitPlaces}
+use Rattle.cells.specs.Snapshot.{wait_text_at, waits_text_from}
+use Rattle.cells.specs.Waits.{ticket_at}
+use Rattle.model.specs.Sizes.{wait_places}
 use mathlib.Core.List.{List}
 use mathlib.Core.Path.{◌≡◌, refl}
 use lib.ListN.{length}
@@ -19,10 +19,10 @@ use Rattle.tables.proofs.ticket_at.Reads as ticket-at-reads
 use Rattle.ending.proofs.next_wait.Reads as next-wait-reads
 
 abbrev invariant-loop : tie.invariant-loop
-invariant-loop buf₀ at t end₀ last₀ turn₀ buf end last turn = (turn ≤ waitPlaces) × (length buf ≡ length buf₀) × Room buf end (waitsTextFrom (waitPlaces - turn) t last) × ((r : ℕ) (e : List ℕ) → Wrote buf end (waitsTextFrom (waitPlaces - turn) t last) r e → Wrote buf₀ at (waitsTextFrom waitPlaces t 0) r e)
+invariant-loop buf₀ at t end₀ last₀ turn₀ buf end last turn = (turn ≤ wait_places) × (length buf ≡ length buf₀) × Room buf end (waits_text_from (wait_places - turn) t last) × ((r : ℕ) (e : List ℕ) → Wrote buf end (waits_text_from (wait_places - turn) t last) r e → Wrote buf₀ at (waits_text_from wait_places t 0) r e)
 
 abbrev decreases-loop : tie.decreases-loop
-decreases-loop buf₀ at t end₀ last₀ turn₀ buf end last turn = waitPlaces - turn
+decreases-loop buf₀ at t end₀ last₀ turn₀ buf end last turn = wait_places - turn
 
 -- src/lib.rt:216:5
 loop-holds : tie.Need-loop-init invariant-loop decreases-loop
@@ -38,11 +38,11 @@ same_length c = search rules
 
 -- src/lib.rt:219:13
 returns : tie.Need-returns invariant-loop decreases-loop
-returns c = let a = c.before.before.before.before.before.before.args in let s = c.before.before.before.loop in s.invariant.3 s.end s.buf (rw (rest-none a.t.now s.turn s.last c.before.before.loop-test.true c.before.next-wait.ensures c.if1.true) (wrote_none s.buf s.end))
+returns c = let a = c.before.before.before.before.before.before.args in let s = c.before.before.before.loop in s.invariant.3 s.end s.buf (rw (rest_none a.t.now s.turn s.last c.before.before.loop-test.true c.before.next-wait.ensures c.if1.true) (wrote_none s.buf s.end))
 
 -- src/lib.rt:221:9
 put-wait-requires : tie.Need-put-wait-requires invariant-loop decreases-loop
-put-wait-requires c κs = let a = c.before.before.before.before.before.before.before.args in let s = c.before.before.before.before.loop in (c.before.if1.false, c.before.before.before.before.before.before.before.requires.0, first-room s.buf s.end (waitTextAt a.t.now c.before.before.next-wait.result) (waitsTextFrom (waitPlaces - (s.turn + 1)) a.t.now (ticketAt a.t.now c.before.before.next-wait.result)) (rw (rest_more a.t.now s.turn s.last c.before.before.before.loop-test.true c.before.before.next-wait.ensures c.before.if1.false (ticketAt a.t.now c.before.before.next-wait.result) refl) at s.invariant.2))
+put-wait-requires c κs = let a = c.before.before.before.before.before.before.before.args in let s = c.before.before.before.before.loop in (c.before.if1.false, c.before.before.before.before.before.before.before.requires.0, first_room s.buf s.end (wait_text_at a.t.now c.before.before.next-wait.result) (waits_text_from (wait_places - (s.turn + 1)) a.t.now (ticket_at a.t.now c.before.before.next-wait.result)) (rw (rest_more a.t.now s.turn s.last c.before.before.before.loop-test.true c.before.before.next-wait.ensures c.before.if1.false (ticket_at a.t.now c.before.before.next-wait.result) refl) at s.invariant.2))
 
 -- src/lib.rt:222:9
 ticket-at-requires : tie.Need-ticket-at-requires invariant-loop decreases-loop
@@ -58,7 +58,7 @@ loop-less c = search rules
 
 -- src/lib.rt:216:5
 loop-again : tie.Need-loop-preserved invariant-loop decreases-loop
-loop-again c = let a = c.before.before.before.before.before.before.before.before.before.before.before.args in let s = c.before.before.before.before.before.before.before.before.loop in (search rules, omega (arith, c.before.before.before.put-wait.auto.0, s.invariant.1), rw c.ticket-at.ensures (then-room s.buf s.end (waitTextAt a.t.now c.before.before.before.before.before.before.next-wait.result) (waitsTextFrom (waitPlaces - (s.turn + 1)) a.t.now (ticketAt a.t.now c.before.before.before.before.before.before.next-wait.result)) c.before.before.before.put-wait.ensures (rw (rest_more a.t.now s.turn s.last c.before.before.before.before.before.before.before.loop-test.true c.before.before.before.before.before.before.next-wait.ensures c.before.before.before.before.before.if1.false (ticketAt a.t.now c.before.before.before.before.before.before.next-wait.result) refl) at s.invariant.2)), rw c.ticket-at.ensures (λ r e v. s.invariant.3 r e (rw (rest_more a.t.now s.turn s.last c.before.before.before.before.before.before.before.loop-test.true c.before.before.before.before.before.before.next-wait.ensures c.before.before.before.before.before.if1.false (ticketAt a.t.now c.before.before.before.before.before.before.next-wait.result) refl) (then-wrote s.buf s.end (waitTextAt a.t.now c.before.before.before.before.before.before.next-wait.result) (waitsTextFrom (waitPlaces - (s.turn + 1)) a.t.now (ticketAt a.t.now c.before.before.before.before.before.before.next-wait.result)) c.before.before.before.put-wait.ensures v))))
+loop-again c = let a = c.before.before.before.before.before.before.before.before.before.before.before.args in let s = c.before.before.before.before.before.before.before.before.loop in (search rules, omega (arith, c.before.before.before.put-wait.auto.0, s.invariant.1), rw c.ticket-at.ensures (then_room s.buf s.end (wait_text_at a.t.now c.before.before.before.before.before.before.next-wait.result) (waits_text_from (wait_places - (s.turn + 1)) a.t.now (ticket_at a.t.now c.before.before.before.before.before.before.next-wait.result)) c.before.before.before.put-wait.ensures (rw (rest_more a.t.now s.turn s.last c.before.before.before.before.before.before.before.loop-test.true c.before.before.before.before.before.before.next-wait.ensures c.before.before.before.before.before.if1.false (ticket_at a.t.now c.before.before.before.before.before.before.next-wait.result) refl) at s.invariant.2)), rw c.ticket-at.ensures (λ r e v. s.invariant.3 r e (rw (rest_more a.t.now s.turn s.last c.before.before.before.before.before.before.before.loop-test.true c.before.before.before.before.before.before.next-wait.ensures c.before.before.before.before.before.if1.false (ticket_at a.t.now c.before.before.before.before.before.before.next-wait.result) refl) (then_wrote s.buf s.end (wait_text_at a.t.now c.before.before.before.before.before.before.next-wait.result) (waits_text_from (wait_places - (s.turn + 1)) a.t.now (ticket_at a.t.now c.before.before.before.before.before.before.next-wait.result)) c.before.before.before.put-wait.ensures v))))
 
 -- src/lib.rt:209:1
 same-length-2 : tie.Need-same-length-2 invariant-loop decreases-loop

@@ -1,7 +1,7 @@
 use mathlib.Core.Path.{◌∙◌, sym}
 use lib.Seq.{length-take-le}
 use Rattle.model.specs.Snapshot.{line}
-use Rattle.snapshot.proofs.Laws.{body-room, summed-room, sum_room, sum-wrote}
+use Rattle.snapshot.proofs.Laws.{body_room, summed_room, sum_room, sum_wrote}
 use native.Mathlib.Omega.{arith}
 use borrow.Author.Rules.{rules}
 use Rattle.snapshot.proofs.write.Statement.{statement}
@@ -15,15 +15,15 @@ use Rattle.snapshot.proofs.write_body.Reads as write-body-reads
 
 -- src/lib.rt:254:9
 write-body-requires : tie.Need-write-body-requires
-write-body-requires c κs = (c.before.before.before.requires.0, body-room c.before.before.before.args.buf.now c.before.before.before.args.t.now 0 c.before.before.before.args.buf.now c.before.before.before.requires.1)
+write-body-requires c κs = (c.before.before.before.requires.0, body_room c.before.before.before.args.buf.now c.before.before.before.args.t.now 0 c.before.before.before.args.buf.now c.before.before.before.requires.1)
 
 -- src/lib.rt:255:39
 slice-reshare-prefix-byte-sum : tie.Need-slice-reshare-prefix-byte-sum
-slice-reshare-prefix-byte-sum c = summed-room c.before.before.before.before.before.before.args.buf.now c.before.before.before.before.before.before.args.t.now c.before.before.write-body.result c.before.before.write-body.new.0 c.before.before.before.before.before.before.requires.1 c.before.before.write-body.ensures
+slice-reshare-prefix-byte-sum c = summed_room c.before.before.before.before.before.before.args.buf.now c.before.before.before.before.before.before.args.t.now c.before.before.write-body.result c.before.before.write-body.new.0 c.before.before.before.before.before.before.requires.1 c.before.before.write-body.ensures
 
 -- src/lib.rt:255:39
 slice-aggregate-byte-sum : tie.Need-slice-aggregate-byte-sum
-slice-aggregate-byte-sum c = sym (length-take-le _ _ (summed-room c.before.before.before.before.before.before.before.args.buf.now c.before.before.before.before.before.before.before.args.t.now c.before.before.before.write-body.result c.before.before.before.write-body.new.0 c.before.before.before.before.before.before.before.requires.1 c.before.before.before.write-body.ensures))
+slice-aggregate-byte-sum c = sym (length-take-le _ _ (summed_room c.before.before.before.before.before.before.before.args.buf.now c.before.before.before.before.before.before.before.args.t.now c.before.before.before.write-body.result c.before.before.before.write-body.new.0 c.before.before.before.before.before.before.before.requires.1 c.before.before.before.write-body.ensures))
 
 -- src/lib.rt:255:20
 byte-sum-requires : tie.Need-byte-sum-requires
@@ -49,7 +49,7 @@ same_length c = search rules
 -- src/lib.rt:250:1
 returns : tie.Need-returns
 unfolding line
-returns c = sum-wrote c.before.before.before.before.before.before.before.before.before.before.before.before.before.before.args.buf.now c.before.before.before.before.before.before.before.before.before.before.before.before.before.before.args.t.now c.before.before.before.before.before.before.before.before.before.before.write-body.result c.before.before.before.before.before.before.before.before.before.before.write-body.new.0 c.before.before.before.before.before.before.before.before.before.before.before.before.before.before.requires.1 c.before.before.before.before.before.before.before.before.before.before.write-body.ensures (c.before.before.before.before.before.wide.ensures ∙ c.before.before.before.before.before.before.byte-sum.ensures) c.before.before.put-line.ensures
+returns c = sum_wrote c.before.before.before.before.before.before.before.before.before.before.before.before.before.before.args.buf.now c.before.before.before.before.before.before.before.before.before.before.before.before.before.before.args.t.now c.before.before.before.before.before.before.before.before.before.before.write-body.result c.before.before.before.before.before.before.before.before.before.before.write-body.new.0 c.before.before.before.before.before.before.before.before.before.before.before.before.before.before.requires.1 c.before.before.before.before.before.before.before.before.before.before.write-body.ensures (c.before.before.before.before.before.wide.ensures ∙ c.before.before.before.before.before.before.byte-sum.ensures) c.before.before.put-line.ensures
 
 pub write_spec : {M : Type 1} → statement M
 write_spec =

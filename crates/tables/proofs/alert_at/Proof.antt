@@ -1,4 +1,4 @@
-use Rattle.cells.specs.Waits.{alertAt}
+use Rattle.cells.specs.Waits.{alert_at}
 use native.Mathlib.Omega.{arith}
 use borrow.Author.Rules.{rules}
 use Rattle.tables.proofs.alert_at.Statement.{statement}
@@ -13,7 +13,7 @@ wait-cell-requires c κs = search rules
 
 -- src/lib.rt:174:1
 returns : tie.Need-returns
-unfolding alertAt
+unfolding alert_at
 returns c = search rules
 
 pub alert-at-spec : {M : Type 1} → statement M

@@ -1,5 +1,5 @@
-use Rattle.cells.proofs.Fold.{fold-none, fold_more}
-use Rattle.cells.specs.Fold.{orBelow, cellFrom}
+use Rattle.cells.proofs.Fold.{fold_none, fold_more}
+use Rattle.cells.specs.Fold.{or_below, cell_from}
 use lib.Bits.{bit_or}
 use mathlib.Core.Path.{◌≡◌}
 use Prim.Native.Nat.{ℕ, ◌≤◌, ◌-◌}
@@ -11,14 +11,14 @@ use Rattle.tables.proofs.bits_of.Reads as reads
 use Rattle.tables.proofs.bits_of.Lts as lts
 
 abbrev invariant-loop : tie.invariant-loop
-invariant-loop t a n x₀ k₀ x k = (k ≤ n) × (x ≡ orBelow (cellFrom t a) k)
+invariant-loop t a n x₀ k₀ x k = (k ≤ n) × (x ≡ or_below (cell_from t a) k)
 
 abbrev decreases-loop : tie.decreases-loop
 decreases-loop t a n x₀ k₀ x k = n - k
 
 -- src/lib.rt:271:5
 loop-holds : tie.Need-loop-init invariant-loop decreases-loop
-loop-holds c = (search rules, fold-none (λ (x : ℕ) i. bit_or x (cellFrom c.args.t.now c.args.a i)) 0)
+loop-holds c = (search rules, fold_none (λ (x : ℕ) i. bit_or x (cell_from c.args.t.now c.args.a i)) 0)
 
 -- src/lib.rt:272:19
 add-x : tie.Need-overflow-add-x invariant-loop decreases-loop
@@ -42,7 +42,7 @@ loop-less c = search rules
 
 -- src/lib.rt:271:5
 loop-again : tie.Need-loop-preserved invariant-loop decreases-loop
-loop-again c = let s = c.before.before.before.args in (search rules, cc (fold_more (λ (x : ℕ) i. bit_or x (cellFrom s.t.now s.a i)) 0 c.before.before.loop.k))
+loop-again c = let s = c.before.before.before.args in (search rules, cc (fold_more (λ (x : ℕ) i. bit_or x (cell_from s.t.now s.a i)) 0 c.before.before.loop.k))
 
 -- src/lib.rt:265:1
 returns : tie.Need-returns invariant-loop decreases-loop

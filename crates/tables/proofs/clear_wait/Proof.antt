@@ -1,7 +1,7 @@
-use Rattle.cells.specs.Waits.{waitCell, clearWait}
-use Rattle.model.specs.Layout.{waitSize}
-use Rattle.cells.proofs.Fold.{fold-none, fold_more}
-use Rattle.cells.specs.Fold.{foldBelow}
+use Rattle.cells.specs.Waits.{wait_cell, clear_wait}
+use Rattle.model.specs.Layout.{wait_size}
+use Rattle.cells.proofs.Fold.{fold_none, fold_more}
+use Rattle.cells.specs.Fold.{fold_below}
 use lib.ListN.{length, set, length-set}
 use mathlib.Core.Path.{◌≡◌, refl}
 use mathlib.Core.List.{List}
@@ -14,10 +14,10 @@ use Rattle.tables.proofs.clear_wait.Reads as reads
 use Rattle.tables.proofs.clear_wait.Lts as lts
 
 abbrev invariant-loop : tie.invariant-loop
-invariant-loop t₀ p base i₀ t i = (i ≤ waitSize) × ((length t ≡ length t₀) × (t ≡ foldBelow (λ u k. set u (waitCell p + k) 0) t₀ i))
+invariant-loop t₀ p base i₀ t i = (i ≤ wait_size) × ((length t ≡ length t₀) × (t ≡ fold_below (λ u k. set u (wait_cell p + k) 0) t₀ i))
 
 abbrev decreases-loop : tie.decreases-loop
-decreases-loop t₀ p base i₀ t i = waitSize - i
+decreases-loop t₀ p base i₀ t i = wait_size - i
 
 -- src/lib.rt:243:29
 mul-base : tie.Need-overflow-mul-base invariant-loop decreases-loop
@@ -29,7 +29,7 @@ add-base c = search rules
 
 -- src/lib.rt:245:5
 loop-holds : tie.Need-loop-init invariant-loop decreases-loop
-loop-holds c = (search rules, (refl, fold-none (λ u k. set u (waitCell c.args.p + k) 0) c.args.t.now))
+loop-holds c = (search rules, (refl, fold_none (λ u k. set u (wait_cell c.args.p + k) 0) c.args.t.now))
 
 -- src/lib.rt:246:18
 add_at : tie.Need-overflow-add-at invariant-loop decreases-loop
@@ -53,7 +53,7 @@ loop-less c = search rules
 
 -- src/lib.rt:245:5
 loop-again : tie.Need-loop-preserved invariant-loop decreases-loop
-loop-again c = let a = c.before.before.args in (search rules, (simp length-set (omega arith), cc (fold_more (λ u k. set u (waitCell a.p + k) 0) a.t.now c.before.loop.i)))
+loop-again c = let a = c.before.before.args in (search rules, (simp length-set (omega arith), cc (fold_more (λ u k. set u (wait_cell a.p + k) 0) a.t.now c.before.loop.i)))
 
 -- src/lib.rt:239:1
 same_length : tie.Need-same-length invariant-loop decreases-loop
@@ -61,8 +61,8 @@ same_length c = search rules
 
 -- src/lib.rt:239:1
 returns : tie.Need-returns invariant-loop decreases-loop
-unfolding clearWait
-returns c = let e : c.before.loop.i ≡ waitSize = omega arith in cc
+unfolding clear_wait
+returns c = let e : c.before.loop.i ≡ wait_size = omega arith in cc
 
 pub clear-wait-spec : {M : Type 1} → statement M
 clear-wait-spec =

@@ -1,4 +1,4 @@
-use Rattle.cells.specs.Waits.{clockAt}
+use Rattle.cells.specs.Waits.{clock_at}
 use native.Mathlib.Omega.{arith}
 use borrow.Author.Rules.{rules}
 use Rattle.tables.proofs.clock_at.Statement.{statement}
@@ -13,7 +13,7 @@ wait-cell-requires c κs = search rules
 
 -- src/lib.rt:148:1
 returns : tie.Need-returns
-unfolding clockAt
+unfolding clock_at
 returns c = search rules
 
 pub clock-at-spec : {M : Type 1} → statement M

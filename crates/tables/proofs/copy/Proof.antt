@@ -2,7 +2,7 @@ use Prim.Native.Nat.{◌≤◌, ◌-◌}
 use mathlib.Core.Path.{◌≡◌, refl, sym, ◌∙◌}
 use lib.ListN.{length, take, length-set}
 use lib.Seq.{take_all}
-use Rattle.model.specs.Layout.{tableLength}
+use Rattle.model.specs.Layout.{table_length}
 use Rattle.tables.proofs.Laws.{copied}
 use native.Mathlib.Omega.{arith}
 use borrow.Author.Rules.{rules}
@@ -12,10 +12,10 @@ use Rattle.tables.proofs.copy.Reads as reads
 use Rattle.tables.proofs.copy.Lts as lts
 
 abbrev invariant-loop : tie.invariant-loop
-invariant-loop to₀ from i₀ to i = (i ≤ tableLength) × ((length to ≡ length to₀) × (take i to ≡ take i from))
+invariant-loop to₀ from i₀ to i = (i ≤ table_length) × ((length to ≡ length to₀) × (take i to ≡ take i from))
 
 abbrev decreases-loop : tie.decreases-loop
-decreases-loop to₀ from i₀ to i = tableLength - i
+decreases-loop to₀ from i₀ to i = table_length - i
 
 -- src/lib.rt:411:5
 loop-holds : tie.Need-loop-init invariant-loop decreases-loop

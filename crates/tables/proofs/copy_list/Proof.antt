@@ -1,6 +1,6 @@
-use Rattle.tables.proofs.Laws.{copied, copy_is, count-le}
+use Rattle.tables.proofs.Laws.{copied, copy_is, count_le}
 use Rattle.refine.proofs.Validity.{list_length}
-use Rattle.model.specs.Sizes.{maxListed}
+use Rattle.model.specs.Sizes.{max_listed}
 use lib.ListN.{length, take, length-set}
 use mathlib.Core.Path.{◌≡◌, refl, ap}
 use Prim.Native.Nat.{◌≤◌, ◌-◌}
@@ -13,7 +13,7 @@ use Rattle.tables.proofs.copy_list.Lts as lts
 use Rattle.tables.proofs.list_of.Reads as list-of-reads
 
 abbrev invariant-loop : tie.invariant-loop
-invariant-loop t p copy₀ list i₀ copy i = (i ≤ length list) × (length copy ≡ maxListed) × (length list ≤ maxListed) × (take i copy ≡ take i list)
+invariant-loop t p copy₀ list i₀ copy i = (i ≤ length list) × (length copy ≡ max_listed) × (length list ≤ max_listed) × (take i copy ≡ take i list)
 
 abbrev decreases-loop : tie.decreases-loop
 decreases-loop t p copy₀ list i₀ copy i = length list - i
@@ -24,7 +24,7 @@ list-of-requires c κs = search rules
 
 -- src/lib.rt:218:5
 loop-holds : tie.Need-loop-init invariant-loop decreases-loop
-loop-holds c = let a = c.before.before.args in (search rules, refl, omega (arith, list_length a.t.now c.before.before.requires.1 a.p c.before.before.requires.0, count-le a.t.now a.p, ap length c.list-of.ensures), refl)
+loop-holds c = let a = c.before.before.args in (search rules, refl, omega (arith, list_length a.t.now c.before.before.requires.1 a.p c.before.before.requires.0, count_le a.t.now a.p, ap length c.list-of.ensures), refl)
 
 -- src/lib.rt:219:19
 mul-copy : tie.Need-overflow-mul-copy invariant-loop decreases-loop

@@ -1,4 +1,4 @@
-use Rattle.tables.proofs.Laws.{count-is, count_none}
+use Rattle.tables.proofs.Laws.{count_is, count_none}
 use native.Mathlib.Omega.{arith}
 use borrow.Author.Rules.{rules}
 use Rattle.tables.proofs.count_at.Statement.{statement}
@@ -13,7 +13,7 @@ listed-at-requires c κs = search rules
 
 -- src/lib.rt:169:9
 returns : tie.Need-returns
-returns c = count-is c.before.before.before.args.t.now c.before.before.before.args.p c.before.listed_at.ensures c.if1.true
+returns c = count_is c.before.before.before.args.t.now c.before.before.before.args.p c.before.listed_at.ensures c.if1.true
 
 -- src/lib.rt:163:1
 returns-2 : tie.Need-returns-2

@@ -1,10 +1,10 @@
-use Rattle.tables.proofs.Laws.{object-empty, object-full}
-use Rattle.cells.specs.Calls.{emptyObject}
+use Rattle.tables.proofs.Laws.{object_empty, object_full}
+use Rattle.cells.specs.Calls.{empty_object}
 use Rattle.cells.specs.Objects.{fields_at}
 use Rattle.kinds.specs.Values.{cells_of}
-use Rattle.model.specs.Sizes.{objectPlaces}
-use Rattle.cells.proofs.Fold.{search-found, search-on, search-end}
-use Rattle.cells.specs.Fold.{searchFrom}
+use Rattle.model.specs.Sizes.{object_places}
+use Rattle.cells.proofs.Fold.{search_found, search_on, search_end}
+use Rattle.cells.specs.Fold.{search_from}
 use lib.Dec.{eqb}
 use mathlib.Core.Path.{◌≡◌, refl, sym, ◌∙◌}
 use mathlib.Core.List.{List}
@@ -18,14 +18,14 @@ use Rattle.tables.proofs.empty_object.Lts as lts
 use Rattle.tables.proofs.object_at.Reads as object-at-reads
 
 abbrev invariant-loop : tie.invariant-loop
-invariant-loop t p₀ p = (p ≤ objectPlaces) × (emptyObject t ≡ searchFrom (λ q. eqb (fields_at t q).kind 0) p (objectPlaces - p))
+invariant-loop t p₀ p = (p ≤ object_places) × (empty_object t ≡ search_from (λ q. eqb (fields_at t q).kind 0) p (object_places - p))
 
 abbrev decreases-loop : tie.decreases-loop
-decreases-loop t p₀ p = objectPlaces - p
+decreases-loop t p₀ p = object_places - p
 
 -- src/lib.rt:99:5
 loop-holds : tie.Need-loop-init invariant-loop decreases-loop
-unfolding emptyObject
+unfolding empty_object
 loop-holds c = (search rules, refl)
 
 -- src/lib.rt:100:13
@@ -34,7 +34,7 @@ object-at-requires c κs = search rules
 
 -- src/lib.rt:102:13
 returns : tie.Need-returns invariant-loop decreases-loop
-returns c = sym (c.before.before.before.before.loop.invariant.1 ∙ search-found (λ q. eqb (fields_at c.before.before.before.before.before.before.args.t.now q).kind 0) c.before.before.before.before.loop.p objectPlaces c.before.before.before.loop-test.true (object-empty c.before.before.before.before.before.before.args.t.now c.before.before.before.before.loop.p (cells_of c.before.before.object-at.result) c.before.before.object-at.ensures c.if1.true))
+returns c = sym (c.before.before.before.before.loop.invariant.1 ∙ search_found (λ q. eqb (fields_at c.before.before.before.before.before.before.args.t.now q).kind 0) c.before.before.before.before.loop.p object_places c.before.before.before.loop-test.true (object_empty c.before.before.before.before.before.before.args.t.now c.before.before.before.before.loop.p (cells_of c.before.before.object-at.result) c.before.before.object-at.ensures c.if1.true))
 
 -- src/lib.rt:104:9
 add-p : tie.Need-overflow-add-p invariant-loop decreases-loop
@@ -46,11 +46,11 @@ loop-less c = search rules
 
 -- src/lib.rt:99:5
 loop-again : tie.Need-loop-preserved invariant-loop decreases-loop
-loop-again c = (search rules, c.before.before.before.before.loop.invariant.1 ∙ search-on (λ q. eqb (fields_at c.before.before.before.before.before.before.args.t.now q).kind 0) c.before.before.before.before.loop.p objectPlaces c.before.before.before.loop-test.true (object-full c.before.before.before.before.before.before.args.t.now c.before.before.before.before.loop.p (cells_of c.before.before.object-at.result) c.before.before.object-at.ensures c.if1.false))
+loop-again c = (search rules, c.before.before.before.before.loop.invariant.1 ∙ search_on (λ q. eqb (fields_at c.before.before.before.before.before.before.args.t.now q).kind 0) c.before.before.before.before.loop.p object_places c.before.before.before.loop-test.true (object_full c.before.before.before.before.before.before.args.t.now c.before.before.before.before.loop.p (cells_of c.before.before.object-at.result) c.before.before.object-at.ensures c.if1.false))
 
 -- src/lib.rt:94:1
 returns-2 : tie.Need-returns-2 invariant-loop decreases-loop
-returns-2 c = sym (c.before.loop.invariant.1 ∙ search-end (λ q. eqb (fields_at c.before.before.before.args.t.now q).kind 0) c.before.loop.p objectPlaces c.loop-test.false)
+returns-2 c = sym (c.before.loop.invariant.1 ∙ search_end (λ q. eqb (fields_at c.before.before.before.args.t.now q).kind 0) c.before.loop.p object_places c.loop-test.false)
 
 pub empty-object-spec : {M : Type 1} → statement M
 empty-object-spec =

@@ -1,4 +1,4 @@
-use Rattle.tables.proofs.Laws.{free-zero}
+use Rattle.tables.proofs.Laws.{free_zero}
 use native.Mathlib.Omega.{arith}
 use borrow.Author.Rules.{rules}
 use Rattle.tables.proofs.free_zero.Statement.{statement}
@@ -21,7 +21,7 @@ bits-of-requires c κs = search rules
 
 -- src/lib.rt:289:1
 returns : tie.Need-returns
-returns c = free-zero c.before.before.args.t.now c.before.before.args.p c.bits_of.ensures
+returns c = free_zero c.before.before.args.t.now c.before.before.args.p c.bits_of.ensures
 
 pub free-zero-spec : {M : Type 1} → statement M
 free-zero-spec = tie.close (tie.spec mul-bits-of add-bits-of bits-of-requires returns)

@@ -1,6 +1,6 @@
-use Rattle.cells.proofs.Fold.{fold-none, fold_more}
+use Rattle.cells.proofs.Fold.{fold_none, fold_more}
 use Rattle.cells.specs.Waits.{has}
-use Rattle.cells.specs.Fold.{someBelow}
+use Rattle.cells.specs.Fold.{some_below}
 use mathlib.Core.Path.{◌≡◌}
 use mathlib.Core.List.{List}
 use mathlib.Core.Bool.{Bool, false, ◌||◌}
@@ -15,14 +15,14 @@ use Rattle.tables.proofs.has.Reads as reads
 use Rattle.tables.proofs.has.Lts as lts
 
 abbrev invariant-loop : tie.invariant-loop
-invariant-loop list h found₀ i₀ found i = (i ≤ length list) × (found ≡ someBelow (λ j. eqb (get_or list j 0) h) i)
+invariant-loop list h found₀ i₀ found i = (i ≤ length list) × (found ≡ some_below (λ j. eqb (get_or list j 0) h) i)
 
 abbrev decreases-loop : tie.decreases-loop
 decreases-loop list h found₀ i₀ found i = length list - i
 
 -- src/lib.rt:208:5
 loop-holds : tie.Need-loop-init invariant-loop decreases-loop
-loop-holds c = (search rules, fold-none (λ (b : Bool) j. b || eqb (get_or c.args.list.now j 0) c.args.h) false)
+loop-holds c = (search rules, fold_none (λ (b : Bool) j. b || eqb (get_or c.args.list.now j 0) c.args.h) false)
 
 -- src/lib.rt:209:26
 mul-found : tie.Need-overflow-mul-found invariant-loop decreases-loop

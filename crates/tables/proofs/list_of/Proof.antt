@@ -1,4 +1,4 @@
-use Rattle.tables.proofs.Laws.{count-le, list-part}
+use Rattle.tables.proofs.Laws.{count_le, list_part}
 use native.Mathlib.Omega.{arith}
 use borrow.Author.Rules.{rules}
 use Rattle.tables.proofs.list_of.Statement.{statement}
@@ -25,7 +25,7 @@ add-from-2 c = search rules
 
 -- src/lib.rt:188:15
 add-end : tie.Need-overflow-add-end
-add-end c = omega (arith, count-le c.before.before.args.t.now c.before.before.args.p)
+add-end c = omega (arith, count_le c.before.before.args.t.now c.before.before.args.p)
 
 -- src/lib.rt:189:5
 mul-result : tie.Need-overflow-mul-result
@@ -41,11 +41,11 @@ part-result-start c = search rules
 
 -- src/lib.rt:189:5
 part-result-end : tie.Need-slice-bounds-result-end
-part-result-end c = omega (arith, count-le c.before.before.args.t.now c.before.before.args.p)
+part-result-end c = omega (arith, count_le c.before.before.args.t.now c.before.before.args.p)
 
 -- src/lib.rt:182:1
 returns : tie.Need-returns
-returns c = list-part c.before.before.before.args.t.now c.before.before.before.args.p c.before.count_at.ensures
+returns c = list_part c.before.before.before.args.t.now c.before.before.before.args.p c.before.count_at.ensures
 
 pub list-of-spec : {M : Type 1} → statement M
 list-of-spec =

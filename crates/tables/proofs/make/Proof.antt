@@ -1,8 +1,8 @@
-use Rattle.tables.proofs.Laws.{made-is}
-use Rattle.cells.specs.Calls.{madeCells}
-use Rattle.model.specs.Layout.{tableLength}
-use Rattle.cells.proofs.Fold.{fold-none, fold_more}
-use Rattle.cells.specs.Fold.{foldBelow}
+use Rattle.tables.proofs.Laws.{made_is}
+use Rattle.cells.specs.Calls.{made_cells}
+use Rattle.model.specs.Layout.{table_length}
+use Rattle.cells.proofs.Fold.{fold_none, fold_more}
+use Rattle.cells.specs.Fold.{fold_below}
 use lib.ListN.{length, set, length-set}
 use mathlib.Core.Path.{◌≡◌, refl}
 use mathlib.Core.List.{List}
@@ -15,14 +15,14 @@ use Rattle.tables.proofs.make.Reads as reads
 use Rattle.tables.proofs.make.Lts as lts
 
 abbrev invariant-loop : tie.invariant-loop
-invariant-loop t₀ i₀ t i = (i ≤ tableLength) × ((length t ≡ length t₀) × (t ≡ foldBelow (λ u k. set u k 0) t₀ i))
+invariant-loop t₀ i₀ t i = (i ≤ table_length) × ((length t ≡ length t₀) × (t ≡ fold_below (λ u k. set u k 0) t₀ i))
 
 abbrev decreases-loop : tie.decreases-loop
-decreases-loop t₀ i₀ t i = tableLength - i
+decreases-loop t₀ i₀ t i = table_length - i
 
 -- src/lib.rt:260:5
 loop-holds : tie.Need-loop-init invariant-loop decreases-loop
-loop-holds c = (search rules, (refl, fold-none (λ u k. set u k 0) c.args.t.now))
+loop-holds c = (search rules, (refl, fold_none (λ u k. set u k 0) c.args.t.now))
 
 -- src/lib.rt:261:9
 mul-t : tie.Need-overflow-mul-t invariant-loop decreases-loop
@@ -54,7 +54,7 @@ same_length c = search rules
 
 -- src/lib.rt:255:1
 returns : tie.Need-returns invariant-loop decreases-loop
-returns c = let e : c.before.loop.i ≡ tableLength = omega arith in made-is c.before.before.args.t.now e c.before.loop.invariant.1.1
+returns c = let e : c.before.loop.i ≡ table_length = omega arith in made_is c.before.before.args.t.now e c.before.loop.invariant.1.1
 
 pub make_spec : {M : Type 1} → statement M
 make_spec =

@@ -1,4 +1,4 @@
-use Rattle.cells.specs.Waits.{modeAt}
+use Rattle.cells.specs.Waits.{mode_at}
 use native.Mathlib.Omega.{arith}
 use borrow.Author.Rules.{rules}
 use Rattle.tables.proofs.mode_at.Statement.{statement}
@@ -13,7 +13,7 @@ wait-cell-requires c κs = search rules
 
 -- src/lib.rt:134:1
 returns : tie.Need-returns
-unfolding modeAt
+unfolding mode_at
 returns c = search rules
 
 pub mode-at-spec : {M : Type 1} → statement M

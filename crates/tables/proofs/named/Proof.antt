@@ -1,5 +1,5 @@
 use mathlib.Core.Path.{sym, ◌∙◌}
-use Rattle.tables.proofs.Laws.{handle-low, named-at, named_none}
+use Rattle.tables.proofs.Laws.{handle_low, named_at, named_none}
 use native.Mathlib.Omega.{arith}
 use borrow.Author.Rules.{rules}
 use Rattle.tables.proofs.named.Statement.{statement}
@@ -15,15 +15,15 @@ is-handle-requires c κs = search rules
 
 -- src/lib.rt:70:30
 sub-object-at : tie.Need-overflow-sub-object-at
-sub-object-at c = let r = handle-low c.before.before.before.args.h (sym c.before.is-handle.ensures ∙ c.if1.true) in omega (arith, r.0)
+sub-object-at c = let r = handle_low c.before.before.before.args.h (sym c.before.is-handle.ensures ∙ c.if1.true) in omega (arith, r.0)
 
 -- src/lib.rt:70:9
 object-at-requires : tie.Need-object-at-requires
-object-at-requires c κs = let r = handle-low c.before.before.before.args.h (sym c.before.is-handle.ensures ∙ c.if1.true) in (omega (arith, r.0, r.1), c.before.before.before.requires)
+object-at-requires c κs = let r = handle_low c.before.before.before.args.h (sym c.before.is-handle.ensures ∙ c.if1.true) in (omega (arith, r.0, r.1), c.before.before.before.requires)
 
 -- src/lib.rt:70:9
 returns : tie.Need-returns
-returns c = let a = c.before.before.before.before.args in c.object-at.ensures ∙ named-at a.t.now a.h c.before.before.is-handle.ensures c.before.if1.true
+returns c = let a = c.before.before.before.before.args in c.object-at.ensures ∙ named_at a.t.now a.h c.before.before.is-handle.ensures c.before.if1.true
 
 -- src/lib.rt:64:1
 returns-2 : tie.Need-returns-2

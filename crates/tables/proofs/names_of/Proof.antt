@@ -1,4 +1,4 @@
-use Rattle.tables.proofs.Laws.{count-le, names-part}
+use Rattle.tables.proofs.Laws.{count_le, names_part}
 use native.Mathlib.Omega.{arith}
 use borrow.Author.Rules.{rules}
 use Rattle.tables.proofs.names_of.Statement.{statement}
@@ -25,11 +25,11 @@ add-from-2 c = search rules
 
 -- src/lib.rt:199:15
 add-end : tie.Need-overflow-add-end
-add-end c = omega (arith, count-le c.before.before.args.t.now c.before.before.args.p)
+add-end c = omega (arith, count_le c.before.before.args.t.now c.before.before.args.p)
 
 -- src/lib.rt:199:15
 add-end-2 : tie.Need-overflow-add-end-2
-add-end-2 c = omega (arith, count-le c.before.before.args.t.now c.before.before.args.p)
+add-end-2 c = omega (arith, count_le c.before.before.args.t.now c.before.before.args.p)
 
 -- src/lib.rt:200:5
 mul-result : tie.Need-overflow-mul-result
@@ -45,11 +45,11 @@ part-result-start c = search rules
 
 -- src/lib.rt:200:5
 part-result-end : tie.Need-slice-bounds-result-end
-part-result-end c = omega (arith, count-le c.before.before.args.t.now c.before.before.args.p)
+part-result-end c = omega (arith, count_le c.before.before.args.t.now c.before.before.args.p)
 
 -- src/lib.rt:193:1
 returns : tie.Need-returns
-returns c = names-part c.before.before.before.args.t.now c.before.before.before.args.p c.before.count_at.ensures
+returns c = names_part c.before.before.before.args.t.now c.before.before.before.args.p c.before.count_at.ensures
 
 pub names-of-spec : {M : Type 1} → statement M
 names-of-spec =

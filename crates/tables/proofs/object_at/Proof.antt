@@ -1,4 +1,4 @@
-use Rattle.tables.proofs.Laws.{fields-at}
+use Rattle.tables.proofs.Laws.{fields_at_lem}
 use native.Mathlib.Omega.{arith}
 use borrow.Author.Rules.{rules}
 use Rattle.tables.proofs.object_at.Statement.{statement}
@@ -60,7 +60,7 @@ shared-slice-read-t18 c = search rules
 
 -- src/lib.rt:31:1
 returns : tie.Need-returns
-returns c = fields-at c.before.before.before.before.args.t.now c.before.before.before.before.args.p
+returns c = fields_at_lem c.before.before.before.before.args.t.now c.before.before.before.before.args.p
 
 pub object-at-spec : {M : Type 1} → statement M
 object-at-spec =

@@ -1,4 +1,4 @@
-use Rattle.cells.specs.Waits.{ownerAt}
+use Rattle.cells.specs.Waits.{owner_at}
 use native.Mathlib.Omega.{arith}
 use borrow.Author.Rules.{rules}
 use Rattle.tables.proofs.owner_at.Statement.{statement}
@@ -13,7 +13,7 @@ wait-cell-requires c κs = search rules
 
 -- src/lib.rt:141:1
 returns : tie.Need-returns
-unfolding ownerAt
+unfolding owner_at
 returns c = search rules
 
 pub owner-at-spec : {M : Type 1} → statement M

@@ -1,5 +1,5 @@
 use lib.ListN.{length-set}
-use Rattle.cells.specs.Calls.{putHeader}
+use Rattle.cells.specs.Calls.{put_header}
 use native.Mathlib.Omega.{arith}
 use borrow.Author.Rules.{rules}
 use Rattle.tables.proofs.put_header.Statement.{statement}
@@ -101,7 +101,7 @@ same_length c = search rules
 
 -- src/lib.rt:264:1
 returns : tie.Need-returns
-unfolding putHeader
+unfolding put_header
 returns c = search rules
 
 pub put-header-spec : {M : Type 1} → statement M

@@ -1,8 +1,8 @@
-use Rattle.cells.proofs.Fold.{fold-none, fold_more}
-use Rattle.cells.specs.Calls.{putList}
-use Rattle.cells.specs.Waits.{waitCell}
-use Rattle.cells.specs.Fold.{foldBelow}
-use Rattle.model.specs.Layout.{headerSize}
+use Rattle.cells.proofs.Fold.{fold_none, fold_more}
+use Rattle.cells.specs.Calls.{put_list}
+use Rattle.cells.specs.Waits.{wait_cell}
+use Rattle.cells.specs.Fold.{fold_below}
+use Rattle.model.specs.Layout.{header_size}
 use lib.ListN.{length, get_or, set, length-set}
 use mathlib.Core.List.{List}
 use mathlib.Core.Path.{◌≡◌, refl}
@@ -15,7 +15,7 @@ use Rattle.tables.proofs.put_list.Reads as reads
 use Rattle.tables.proofs.put_list.Lts as lts
 
 abbrev invariant-loop : tie.invariant-loop
-invariant-loop t₀ p list base k₀ t k = (k ≤ length list) × (length t ≡ length t₀) × (t ≡ foldBelow (λ u i. set u (waitCell p + headerSize + i) (get_or list i 0)) t₀ k)
+invariant-loop t₀ p list base k₀ t k = (k ≤ length list) × (length t ≡ length t₀) × (t ≡ fold_below (λ u i. set u (wait_cell p + header_size + i) (get_or list i 0)) t₀ k)
 
 abbrev decreases-loop : tie.decreases-loop
 decreases-loop t₀ p list base k₀ t k = length list - k
@@ -34,7 +34,7 @@ add-base-2 c = search rules
 
 -- src/lib.rt:294:5
 loop-holds : tie.Need-loop-init invariant-loop decreases-loop
-loop-holds c = let a = c.args in (search rules, refl, fold-none (λ (u : List ℕ) i. set u (waitCell a.p + headerSize + i) (get_or a.list.now i 0)) a.t.now)
+loop-holds c = let a = c.args in (search rules, refl, fold_none (λ (u : List ℕ) i. set u (wait_cell a.p + header_size + i) (get_or a.list.now i 0)) a.t.now)
 
 -- src/lib.rt:295:18
 add_at : tie.Need-overflow-add-at invariant-loop decreases-loop
@@ -66,7 +66,7 @@ loop-less c = search rules
 
 -- src/lib.rt:294:5
 loop-again : tie.Need-loop-preserved invariant-loop decreases-loop
-loop-again c = let a = c.before.before.before.args in (search rules, simp length-set (omega arith), cc (fold_more (λ (u : List ℕ) i. set u (waitCell a.p + headerSize + i) (get_or a.list.now i 0)) a.t.now c.before.before.loop.k))
+loop-again c = let a = c.before.before.before.args in (search rules, simp length-set (omega arith), cc (fold_more (λ (u : List ℕ) i. set u (wait_cell a.p + header_size + i) (get_or a.list.now i 0)) a.t.now c.before.before.loop.k))
 
 -- src/lib.rt:288:1
 same_length : tie.Need-same-length invariant-loop decreases-loop
@@ -74,7 +74,7 @@ same_length c = search rules
 
 -- src/lib.rt:288:1
 returns : tie.Need-returns invariant-loop decreases-loop
-unfolding putList
+unfolding put_list
 returns c = let e : c.before.loop.k ≡ length c.before.before.args.list.now = omega arith in cc
 
 pub put-list-spec : {M : Type 1} → statement M

@@ -1,5 +1,5 @@
 use lib.ListN.{length-set}
-use Rattle.cells.specs.Objects.{putFields}
+use Rattle.cells.specs.Objects.{put_fields}
 use native.Mathlib.Omega.{arith}
 use borrow.Author.Rules.{rules}
 use Rattle.tables.proofs.put_object.Statement.{statement}
@@ -65,7 +65,7 @@ same_length c = search rules
 
 -- src/lib.rt:44:1
 returns : tie.Need-returns
-unfolding putFields
+unfolding put_fields
 returns c = search rules
 
 pub put-object-spec : {M : Type 1} → statement M

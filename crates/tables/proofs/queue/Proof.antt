@@ -1,5 +1,5 @@
 use lib.ListN.{length-set}
-use Rattle.tables.proofs.Laws.{queued-is}
+use Rattle.tables.proofs.Laws.{queued_is}
 use native.Mathlib.Omega.{arith}
 use borrow.Author.Rules.{rules}
 use Rattle.tables.proofs.queue.Statement.{statement}
@@ -36,7 +36,7 @@ same_length c = simp length-set (omega arith)
 
 -- src/lib.rt:302:1
 returns : tie.Need-returns
-returns c = let a = c.before.before.before.before.before.before.before.before.before.before.before.before.args in queued-is a.t.now a.p a.mode a.list.now a.owner a.clock a.alert a.timeout c.before.before.before.before.before.before.before.before.next-ticket.ensures c.before.before.before.before.before.before.put-header.ensures c.before.before.put-list.ensures
+returns c = let a = c.before.before.before.before.before.before.before.before.before.before.before.before.args in queued_is a.t.now a.p a.mode a.list.now a.owner a.clock a.alert a.timeout c.before.before.before.before.before.before.before.before.next-ticket.ensures c.before.before.before.before.before.before.put-header.ensures c.before.before.put-list.ensures
 
 pub queue-spec : {M : Type 1} → statement M
 queue-spec =

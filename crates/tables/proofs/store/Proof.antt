@@ -1,5 +1,5 @@
 use mathlib.Core.Path.{sym, ◌∙◌}
-use Rattle.tables.proofs.Laws.{handle-low, store_at, store-none}
+use Rattle.tables.proofs.Laws.{handle_low, store_at, store_none}
 use Rattle.kinds.specs.Values.{cells_of}
 use native.Mathlib.Omega.{arith}
 use borrow.Author.Rules.{rules}
@@ -16,11 +16,11 @@ is-handle-requires c κs = search rules
 
 -- src/lib.rt:87:24
 sub-put-object : tie.Need-overflow-sub-put-object
-sub-put-object c = let r = handle-low c.before.before.before.before.args.h (sym c.before.before.is-handle.ensures ∙ c.before.if1.true) in omega (arith, r.0)
+sub-put-object c = let r = handle_low c.before.before.before.before.args.h (sym c.before.before.is-handle.ensures ∙ c.before.if1.true) in omega (arith, r.0)
 
 -- src/lib.rt:87:9
 put-object-requires : tie.Need-put-object-requires
-put-object-requires c κs = let r = handle-low c.before.before.before.before.args.h (sym c.before.before.is-handle.ensures ∙ c.before.if1.true) in (omega (arith, r.0, r.1), c.before.before.before.before.requires)
+put-object-requires c κs = let r = handle_low c.before.before.before.before.args.h (sym c.before.before.is-handle.ensures ∙ c.before.if1.true) in (omega (arith, r.0, r.1), c.before.before.before.before.requires)
 
 -- src/lib.rt:81:1
 same_length : tie.Need-same-length
@@ -32,7 +32,7 @@ returns c = let a = c.before.before.before.before.before.before.before.args in c
 
 -- src/lib.rt:81:1
 returns-2 : tie.Need-returns-2
-returns-2 c = let a = c.before.before.before.args in store-none a.t.now a.h c.before.is-handle.ensures (cells_of a.o) c.if1.false
+returns-2 c = let a = c.before.before.before.args in store_none a.t.now a.h c.before.is-handle.ensures (cells_of a.o) c.if1.false
 
 pub store_spec : {M : Type 1} → statement M
 store_spec =

@@ -1,4 +1,4 @@
-use Rattle.cells.specs.Waits.{ticketAt}
+use Rattle.cells.specs.Waits.{ticket_at}
 use native.Mathlib.Omega.{arith}
 use borrow.Author.Rules.{rules}
 use Rattle.tables.proofs.ticket_at.Statement.{statement}
@@ -13,7 +13,7 @@ wait-cell-requires c κs = search rules
 
 -- src/lib.rt:127:1
 returns : tie.Need-returns
-unfolding ticketAt
+unfolding ticket_at
 returns c = search rules
 
 pub ticket-at-spec : {M : Type 1} → statement M

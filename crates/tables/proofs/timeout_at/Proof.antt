@@ -1,4 +1,4 @@
-use Rattle.cells.specs.Waits.{timeoutAt}
+use Rattle.cells.specs.Waits.{timeout_at}
 use native.Mathlib.Omega.{arith}
 use borrow.Author.Rules.{rules}
 use Rattle.tables.proofs.timeout_at.Statement.{statement}
@@ -13,7 +13,7 @@ wait-cell-requires c κs = search rules
 
 -- src/lib.rt:155:1
 returns : tie.Need-returns
-unfolding timeoutAt
+unfolding timeout_at
 returns c = search rules
 
 pub timeout-at-spec : {M : Type 1} → statement M

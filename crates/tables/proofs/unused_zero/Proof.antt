@@ -1,4 +1,4 @@
-use Rattle.tables.proofs.Laws.{count-le, unused-zero}
+use Rattle.tables.proofs.Laws.{count_le, unused_zero_lem}
 use native.Mathlib.Omega.{arith}
 use borrow.Author.Rules.{rules}
 use Rattle.tables.proofs.unused_zero.Statement.{statement}
@@ -14,31 +14,31 @@ count-at-requires c κs = search rules
 
 -- src/lib.rt:284:29
 mul-from : tie.Need-overflow-mul-from
-mul-from c = let a = c.before.before.args in omega (arith, count-le a.t.now a.p)
+mul-from c = let a = c.before.before.args in omega (arith, count_le a.t.now a.p)
 
 -- src/lib.rt:284:16
 add-from : tie.Need-overflow-add-from
-add-from c = let a = c.before.before.args in omega (arith, count-le a.t.now a.p)
+add-from c = let a = c.before.before.args in omega (arith, count_le a.t.now a.p)
 
 -- src/lib.rt:284:46
 add-from-2 : tie.Need-overflow-add-from-2
-add-from-2 c = let a = c.before.before.args in omega (arith, count-le a.t.now a.p)
+add-from-2 c = let a = c.before.before.args in omega (arith, count_le a.t.now a.p)
 
 -- src/lib.rt:284:16
 add-from-3 : tie.Need-overflow-add-from-3
-add-from-3 c = let a = c.before.before.args in omega (arith, count-le a.t.now a.p)
+add-from-3 c = let a = c.before.before.args in omega (arith, count_le a.t.now a.p)
 
 -- src/lib.rt:285:22
 sub-bits-of : tie.Need-overflow-sub-bits-of
-sub-bits-of c = let a = c.before.before.args in omega (arith, count-le a.t.now a.p)
+sub-bits-of c = let a = c.before.before.args in omega (arith, count_le a.t.now a.p)
 
 -- src/lib.rt:285:5
 bits-of-requires : tie.Need-bits-of-requires
-bits-of-requires c κs = let a = c.before.before.args in omega (arith, count-le a.t.now a.p)
+bits-of-requires c κs = let a = c.before.before.args in omega (arith, count_le a.t.now a.p)
 
 -- src/lib.rt:279:1
 returns : tie.Need-returns
-returns c = unused-zero c.before.before.before.args.t.now c.before.before.before.args.p c.before.count_at.ensures c.bits_of.ensures
+returns c = unused_zero_lem c.before.before.before.args.t.now c.before.before.before.args.p c.before.count_at.ensures c.bits_of.ensures
 
 pub unused-zero-spec : {M : Type 1} → statement M
 unused-zero-spec =

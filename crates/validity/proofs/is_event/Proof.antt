@@ -1,5 +1,5 @@
 use Rattle.kinds.specs.Values.{cells_of}
-use Rattle.validity.proofs.Laws.{event-is}
+use Rattle.validity.proofs.Laws.{event_is}
 use native.Mathlib.Omega.{arith}
 use borrow.Author.Rules.{rules}
 use Rattle.validity.proofs.is_event.Statement.{statement}
@@ -14,7 +14,7 @@ named-requires c κs = search rules
 
 -- src/lib.rt:74:1
 returns : tie.Need-returns
-returns c = event-is c.before.before.before.args.t.now c.before.before.before.args.h (cells_of c.before.named.result) c.before.named.ensures
+returns c = event_is c.before.before.before.args.t.now c.before.before.before.args.h (cells_of c.before.named.result) c.before.named.ensures
 
 pub is-event-spec : {M : Type 1} → statement M
 is-event-spec = tie.close (tie.spec named-requires returns)

@@ -1,5 +1,5 @@
 use Rattle.kinds.specs.Values.{cells_of}
-use Rattle.validity.proofs.Laws.{occupied-is}
+use Rattle.validity.proofs.Laws.{occupied_is}
 use native.Mathlib.Omega.{arith}
 use borrow.Author.Rules.{rules}
 use Rattle.validity.proofs.occupied.Statement.{statement}
@@ -14,7 +14,7 @@ named-requires c κs = search rules
 
 -- src/lib.rt:66:1
 returns : tie.Need-returns
-returns c = occupied-is c.before.before.before.args.t.now c.before.before.before.args.h (cells_of c.before.named.result) c.before.named.ensures
+returns c = occupied_is c.before.before.before.args.t.now c.before.before.before.args.h (cells_of c.before.named.result) c.before.named.ensures
 
 pub occupied-spec : {M : Type 1} → statement M
 occupied-spec = tie.close (tie.spec named-requires returns)

@@ -1,6 +1,6 @@
-use Rattle.cells.specs.Validity.{occupiedAt, occupiedList}
+use Rattle.cells.specs.Validity.{occupied_at, occupied_list}
 use lib.ListN.{length, get_or}
-use Rattle.cells.proofs.Fold.{fold-none, fold_more}
+use Rattle.cells.proofs.Fold.{fold_none, fold_more}
 use Rattle.cells.specs.Fold.{all_below}
 use mathlib.Core.Bool.{Bool, true, not, ◌&&◌}
 use mathlib.Core.List.{List}
@@ -15,14 +15,14 @@ use Rattle.validity.proofs.occupied_list.Lts as lts
 use Rattle.validity.proofs.occupied.Reads as occupied-reads
 
 abbrev invariant-loop : tie.invariant-loop
-invariant-loop t list ok₀ i₀ ok i = (i ≤ length list) × (ok ≡ all_below (λ k. occupiedAt t (get_or list k 0)) i)
+invariant-loop t list ok₀ i₀ ok i = (i ≤ length list) × (ok ≡ all_below (λ k. occupied_at t (get_or list k 0)) i)
 
 abbrev decreases-loop : tie.decreases-loop
 decreases-loop t list ok₀ i₀ ok i = length list - i
 
 -- src/lib.rt:88:5
 loop-holds : tie.Need-loop-init invariant-loop decreases-loop
-loop-holds c = let a = c.before.before.args in (search rules, fold-none (λ (b : Bool) k. b && occupiedAt a.t.now (get_or a.list.now k 0)) true)
+loop-holds c = let a = c.before.before.args in (search rules, fold_none (λ (b : Bool) k. b && occupied_at a.t.now (get_or a.list.now k 0)) true)
 
 -- src/lib.rt:89:17
 mul-h : tie.Need-overflow-mul-h invariant-loop decreases-loop
@@ -46,11 +46,11 @@ loop-less c = search rules
 
 -- src/lib.rt:88:5
 loop-again : tie.Need-loop-preserved invariant-loop decreases-loop
-loop-again c = let a = c.before.before.before.before.before.before.args in (search rules, cc (fold_more (λ (b : Bool) k. b && occupiedAt a.t.now (get_or a.list.now k 0)) true c.before.before.before.loop.i))
+loop-again c = let a = c.before.before.before.before.before.before.args in (search rules, cc (fold_more (λ (b : Bool) k. b && occupied_at a.t.now (get_or a.list.now k 0)) true c.before.before.before.loop.i))
 
 -- src/lib.rt:82:1
 returns : tie.Need-returns invariant-loop decreases-loop
-unfolding occupiedList
+unfolding occupied_list
 returns c = let e : c.before.loop.i ≡ length c.before.before.before.before.args.list.now = omega arith in cc
 
 pub occupied-list-spec : {M : Type 1} → statement M

@@ -1,6 +1,6 @@
-use Rattle.refine.proofs.Shapes.{onceAt, seenNames, seen-alert, seen_more, once-all, once-empty, once-again, once_more}
+use Rattle.refine.proofs.Shapes.{once_at, seen_names, seen_alert, seen_more, once_all, once_empty, once_again, once_more}
 use lib.ListN.{length}
-use Rattle.cells.proofs.Fold.{fold-none}
+use Rattle.cells.proofs.Fold.{fold_none}
 use Rattle.cells.specs.Fold.{all_below}
 use mathlib.Core.Bool.{Bool, true, ◌&&◌}
 use mathlib.Core.Path.{◌≡◌, sym}
@@ -14,7 +14,7 @@ use Rattle.validity.proofs.occupied_once.Lts as lts
 use Rattle.validity.proofs.occupied.Reads as occupied-reads
 
 abbrev invariant-loop : tie.invariant-loop
-invariant-loop t mode list alert seen₀ first i₀ seen i = (i ≤ length list) × (all_below (onceAt t list alert) i ≡ true) × (seen ≡ seenNames alert list i)
+invariant-loop t mode list alert seen₀ first i₀ seen i = (i ≤ length list) × (all_below (once_at t list alert) i ≡ true) × (seen ≡ seen_names alert list i)
 
 abbrev decreases-loop : tie.decreases-loop
 decreases-loop t mode list alert seen₀ first i₀ seen i = length list - i
@@ -29,7 +29,7 @@ array-write-seen c = search rules
 
 -- src/lib.rt:108:5
 loop-holds : tie.Need-loop-init invariant-loop decreases-loop
-loop-holds c = let a = c.before.before.args in (search rules, sym (fold-none (λ (b : Bool) k. b && onceAt a.t.now a.list.now a.alert k) true), seen-alert a.alert a.list.now)
+loop-holds c = let a = c.before.before.args in (search rules, sym (fold_none (λ (b : Bool) k. b && once_at a.t.now a.list.now a.alert k) true), seen_alert a.alert a.list.now)
 
 -- src/lib.rt:109:17
 mul-h : tie.Need-overflow-mul-h invariant-loop decreases-loop
@@ -45,7 +45,7 @@ occupied-requires c κs = search rules
 
 -- src/lib.rt:112:13
 returns : tie.Need-returns invariant-loop decreases-loop
-returns c = let a = c.before.before.before.before.before.before.before.args in once-empty a.t.now a.list.now a.mode a.alert c.before.before.before.before.before.before.before.requires.1 c.before.before.before.before.loop.i c.before.before.before.loop-test.true c.before.occupied.ensures c.if1.true
+returns c = let a = c.before.before.before.before.before.before.before.args in once_empty a.t.now a.list.now a.mode a.alert c.before.before.before.before.before.before.before.requires.1 c.before.before.before.before.loop.i c.before.before.before.loop-test.true c.before.occupied.ensures c.if1.true
 
 -- src/lib.rt:114:21
 rem-flag : tie.Need-nonzero-rem-flag invariant-loop decreases-loop
@@ -57,7 +57,7 @@ array-read-if2 c = search rules
 
 -- src/lib.rt:116:13
 returns-2 : tie.Need-returns-2 invariant-loop decreases-loop
-returns-2 c = let a = c.before.before.before.before.before.before.before.before.args in once-again a.t.now a.list.now a.mode a.alert c.before.before.before.before.before.before.before.before.requires.1 c.before.before.before.before.before.loop.i c.before.before.before.before.loop-test.true c.before.before.before.before.before.loop.invariant.2 c.if2.true
+returns-2 c = let a = c.before.before.before.before.before.before.before.before.args in once_again a.t.now a.list.now a.mode a.alert c.before.before.before.before.before.before.before.before.requires.1 c.before.before.before.before.before.loop.i c.before.before.before.before.loop-test.true c.before.before.before.before.before.loop.invariant.2 c.if2.true
 
 -- src/lib.rt:118:9
 array-write-seen-2 : tie.Need-array-write-seen-2 invariant-loop decreases-loop
@@ -77,7 +77,7 @@ loop-again c = let a = c.before.before.before.before.before.before.before.before
 
 -- src/lib.rt:100:1
 returns-3 : tie.Need-returns-3 invariant-loop decreases-loop
-returns-3 c = let a = c.before.before.before.before.args in let e : c.before.loop.i ≡ length a.list.now = omega arith in once-all a.t.now a.list.now a.mode a.alert c.before.before.before.before.requires.1 e c.before.loop.invariant.1
+returns-3 c = let a = c.before.before.before.before.args in let e : c.before.loop.i ≡ length a.list.now = omega arith in once_all a.t.now a.list.now a.mode a.alert c.before.before.before.before.requires.1 e c.before.loop.invariant.1
 
 pub occupied-once-spec : {M : Type 1} → statement M
 occupied-once-spec =

@@ -1,4 +1,4 @@
-use Rattle.validity.proofs.Laws.{proper-any, proper-none, proper-all}
+use Rattle.validity.proofs.Laws.{proper_any, proper_none, proper_all}
 use native.Mathlib.Omega.{arith}
 use borrow.Author.Rules.{rules}
 use Rattle.validity.proofs.proper_list.Statement.{statement}
@@ -12,16 +12,16 @@ occupied-list-requires : tie.Need-occupied-list-requires
 occupied-list-requires c κs = search rules
 
 returns : tie.Need-returns
-returns c = let a = c.before.before.before.before.args in λ y. proper-any a.t.now a.list.now a.mode a.alert c.before.if1.true c.occupied-list.ensures
+returns c = let a = c.before.before.before.before.args in λ y. proper_any a.t.now a.list.now a.mode a.alert c.before.if1.true c.occupied-list.ensures
 
 returns-2 : tie.Need-returns-2
-returns-2 c = let a = c.before.before.before.before.args in λ y. proper-none a.t.now a.list.now a.mode a.alert c.before.if1.false c.if2.true
+returns-2 c = let a = c.before.before.before.before.args in λ y. proper_none a.t.now a.list.now a.mode a.alert c.before.if1.false c.if2.true
 
 occupied-once-requires : tie.Need-occupied-once-requires
 occupied-once-requires c κs = search rules
 
 returns-3 : tie.Need-returns-3
-returns-3 c = let a = c.before.before.before.before.before.args in λ y. proper-all a.t.now a.list.now a.mode a.alert c.before.if2.false (c.occupied-once.ensures y)
+returns-3 c = let a = c.before.before.before.before.before.args in λ y. proper_all a.t.now a.list.now a.mode a.alert c.before.if2.false (c.occupied-once.ensures y)
 
 pub proper-list-spec : {M : Type 1} → statement M
 proper-list-spec =

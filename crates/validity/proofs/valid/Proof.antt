@@ -1,4 +1,4 @@
-use Rattle.validity.proofs.Laws.{whole-short, whole-valid}
+use Rattle.validity.proofs.Laws.{whole_short, whole_valid}
 use native.Mathlib.Omega.{arith}
 use borrow.Author.Rules.{rules}
 use Rattle.validity.proofs.valid.Statement.{statement}
@@ -11,7 +11,7 @@ use Rattle.validity.proofs.valid_waits.Reads as valid-waits-reads
 
 -- src/lib.rt:213:9
 returns : tie.Need-returns
-returns c = whole-short c.before.before.args.t.now c.if1.true
+returns c = whole_short c.before.before.args.t.now c.if1.true
 
 -- src/lib.rt:215:9
 next-ticket-requires : tie.Need-next-ticket-requires
@@ -27,7 +27,7 @@ valid-waits-requires c κs = search rules
 
 -- src/lib.rt:209:1
 returns-2 : tie.Need-returns-2
-returns-2 c = whole-valid c.before.before.before.before.before.args.t.now c.before.before.before.if1.false c.before.before.next-ticket.ensures c.before.valid-objects.ensures c.valid-waits.ensures
+returns-2 c = whole_valid c.before.before.before.before.before.args.t.now c.before.before.before.if1.false c.before.before.next-ticket.ensures c.before.valid-objects.ensures c.valid-waits.ensures
 
 pub valid-spec : {M : Type 1} → statement M
 valid-spec =

@@ -1,4 +1,4 @@
-use Rattle.validity.proofs.Laws.{header-valid}
+use Rattle.validity.proofs.Laws.{header_valid}
 use native.Mathlib.Omega.{arith}
 use borrow.Author.Rules.{rules}
 use Rattle.validity.proofs.valid_header.Statement.{statement}
@@ -43,7 +43,7 @@ listed-at-requires c κs = search rules
 
 -- src/lib.rt:140:1
 returns : tie.Need-returns
-returns c = let a = c.before.before.before.before.before.before.before.before.args in header-valid a.t.now a.p c.before.before.before.before.before.before.ticket-at.ensures c.before.before.before.before.before.next-ticket.ensures c.before.before.before.before.alone.ensures c.before.before.before.mode-at.ensures c.before.before.owner_at.ensures c.before.clock-at.ensures c.listed_at.ensures
+returns c = let a = c.before.before.before.before.before.before.before.before.args in header_valid a.t.now a.p c.before.before.before.before.before.before.ticket-at.ensures c.before.before.before.before.before.next-ticket.ensures c.before.before.before.before.alone.ensures c.before.before.before.mode-at.ensures c.before.before.owner_at.ensures c.before.clock-at.ensures c.listed_at.ensures
 
 pub valid-header-spec : {M : Type 1} → statement M
 valid-header-spec =

@@ -1,4 +1,4 @@
-use Rattle.validity.proofs.Laws.{names-valid}
+use Rattle.validity.proofs.Laws.{names_valid}
 use native.Mathlib.Omega.{arith}
 use borrow.Author.Rules.{rules}
 use Rattle.validity.proofs.valid_names.Statement.{statement}
@@ -38,7 +38,7 @@ proper-list-requires c κs = search rules
 
 -- src/lib.rt:178:1
 returns : tie.Need-returns
-returns c = let a = c.before.before.before.before.before.before.before.args in names-valid a.t.now a.p c.before.before.before.alert-at.ensures c.before.before.before.before.before.mode-at.ensures c.before.before.before.before.list-of.ensures c.before.unused-zero.ensures c.before.before.is-event.ensures c.proper-list.ensures
+returns c = let a = c.before.before.before.before.before.before.before.args in names_valid a.t.now a.p c.before.before.before.alert-at.ensures c.before.before.before.before.before.mode-at.ensures c.before.before.before.before.list-of.ensures c.before.unused-zero.ensures c.before.before.is-event.ensures c.proper-list.ensures
 
 pub valid-names-spec : {M : Type 1} → statement M
 valid-names-spec =

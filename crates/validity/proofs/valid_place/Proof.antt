@@ -1,5 +1,5 @@
 use mathlib.Core.Path.{◌∙◌}
-use Rattle.validity.proofs.Laws.{place-free, place-valid}
+use Rattle.validity.proofs.Laws.{place_free, place_valid}
 use native.Mathlib.Omega.{arith}
 use borrow.Author.Rules.{rules}
 use Rattle.validity.proofs.valid_place.Statement.{statement}
@@ -21,7 +21,7 @@ free-zero-requires c κs = search rules
 
 -- src/lib.rt:187:9
 returns : tie.Need-returns
-returns c = let a = c.before.before.before.before.args in c.free-zero.ensures ∙ place-free a.t.now a.p c.before.before.ticket-at.ensures c.before.if1.true
+returns c = let a = c.before.before.before.before.args in c.free-zero.ensures ∙ place_free a.t.now a.p c.before.before.ticket-at.ensures c.before.if1.true
 
 -- src/lib.rt:189:9
 valid-header-requires : tie.Need-valid-header-requires
@@ -33,7 +33,7 @@ valid-names-requires c κs = search rules
 
 -- src/lib.rt:181:1
 returns-2 : tie.Need-returns-2
-returns-2 c = let a = c.before.before.before.before.before.args in place-valid a.t.now a.p c.before.before.before.ticket-at.ensures c.before.before.if1.false c.before.valid-header.ensures c.valid-names.ensures
+returns-2 c = let a = c.before.before.before.before.before.args in place_valid a.t.now a.p c.before.before.before.ticket-at.ensures c.before.before.if1.false c.before.valid-header.ensures c.valid-names.ensures
 
 pub valid-place-spec : {M : Type 1} → statement M
 valid-place-spec =

@@ -1,4 +1,4 @@
-use Rattle.waits.proofs.Laws.{bad-is}
+use Rattle.waits.proofs.Laws.{bad_is}
 use native.Mathlib.Omega.{arith}
 use borrow.Author.Rules.{rules}
 use Rattle.waits.proofs.bad_wait.Statement.{statement}
@@ -15,7 +15,7 @@ proper-list-requires : tie.Need-proper-list-requires
 proper-list-requires c κs = search rules
 
 returns : tie.Need-returns
-returns c = let a = c.before.before.before.before.args in bad-is a.t.now a.mode a.list.now a.asking a.flags a.pad a.alert c.before.is-event.ensures c.proper-list.ensures
+returns c = let a = c.before.before.before.before.args in bad_is a.t.now a.mode a.list.now a.asking a.flags a.pad a.alert c.before.is-event.ensures c.proper-list.ensures
 
 pub bad-wait-spec : {M : Type 1} → statement M
 bad-wait-spec =

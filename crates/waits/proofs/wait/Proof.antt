@@ -1,8 +1,8 @@
 use mathlib.Core.Path.{sym, ap}
 use lib.ListN.{length}
 use mathlib.Core.List.{List, []}
-use Rattle.model.specs.Calls.{nothingLent}
-use Rattle.waits.proofs.Laws.{wait-long, wait-bad, wait-acts}
+use Rattle.model.specs.Calls.{nothing_lent}
+use Rattle.waits.proofs.Laws.{wait_long, wait_bad, wait_acts}
 use native.Mathlib.Omega.{arith}
 use borrow.Author.Rules.{rules}
 use Rattle.waits.proofs.wait.Statement.{statement}
@@ -18,7 +18,7 @@ ended-requires : tie.Need-ended-requires
 ended-requires c κs = search rules
 
 returns : tie.Need-returns
-returns c = let a = c.before.before.before.before.args in rw c.ended.ensures (wait-long a.t.now a.mode a.list.now a.asking a.flags a.alert a.timeout a.time nothingLent a.pad c.before.if1.true)
+returns c = let a = c.before.before.before.before.args in rw c.ended.ensures (wait_long a.t.now a.mode a.list.now a.asking a.flags a.alert a.timeout a.time nothing_lent a.pad c.before.if1.true)
 
 widen-requires : tie.Need-widen-requires
 widen-requires c κs = search rules
@@ -39,7 +39,7 @@ same_length : tie.Need-same-length
 same_length c = search rules
 
 returns-2 : tie.Need-returns-2
-returns-2 c = let a = c.before.before.before.before.before.before.before.before.before.args in rw c.ended2.ensures (wait-bad a.t.now a.mode a.list.now a.asking a.flags a.alert a.timeout a.time nothingLent a.pad c.before.before.before.before.before.widen.ensures.1 c.before.before.bad-wait.ensures c.before.if2.true)
+returns-2 c = let a = c.before.before.before.before.before.before.before.before.before.args in rw c.ended2.ensures (wait_bad a.t.now a.mode a.list.now a.asking a.flags a.alert a.timeout a.time nothing_lent a.pad c.before.before.before.before.before.widen.ensures.1 c.before.before.bad-wait.ensures c.before.if2.true)
 
 array-share-prefix-wide-2 : tie.Need-array-share-prefix-wide-2
 array-share-prefix-wide-2 c = search rules
@@ -54,7 +54,7 @@ same-length-2 : tie.Need-same-length-2
 same-length-2 c = search rules
 
 returns-3 : tie.Need-returns-3
-returns-3 c = let a = c.before.before.before.before.before.before.before.before.before.before.before.before.before.args in wait-acts a.t.now a.mode a.list.now a.asking a.flags a.alert a.timeout a.time nothingLent a.pad c.before.before.before.before.before.before.before.before.before.widen.ensures.1 c.before.before.before.before.before.before.bad-wait.ensures c.before.before.before.before.before.if2.false _ c.before.before.act.ensures
+returns-3 c = let a = c.before.before.before.before.before.before.before.before.before.before.before.before.before.args in wait_acts a.t.now a.mode a.list.now a.asking a.flags a.alert a.timeout a.time nothing_lent a.pad c.before.before.before.before.before.before.before.before.before.widen.ensures.1 c.before.before.before.before.before.before.bad-wait.ensures c.before.before.before.before.before.if2.false _ c.before.before.act.ensures
 
 pub wait_spec : {M : Type 1} → statement M
 wait_spec =

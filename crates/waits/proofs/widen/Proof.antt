@@ -1,5 +1,5 @@
 use Rattle.tables.proofs.Laws.{copied}
-use Rattle.model.specs.Sizes.{maxListed}
+use Rattle.model.specs.Sizes.{max_listed}
 use lib.Seq.{take-length}
 use lib.ListN.{length, take, length-set}
 use mathlib.Core.Path.{◌≡◌, refl, sym, ◌∙◌}
@@ -12,7 +12,7 @@ use Rattle.waits.proofs.widen.Reads as reads
 use Rattle.waits.proofs.widen.Lts as lts
 
 abbrev invariant-loop : tie.invariant-loop
-invariant-loop list wide₀ i₀ wide i = (i ≤ length list) × (length wide ≡ maxListed) × (take i wide ≡ take i list)
+invariant-loop list wide₀ i₀ wide i = (i ≤ length list) × (length wide ≡ max_listed) × (take i wide ≡ take i list)
 
 abbrev decreases-loop : tie.decreases-loop
 decreases-loop list wide₀ i₀ wide i = length list - i

@@ -1,4 +1,4 @@
-use Rattle.walk.proofs.Laws.{alerted-at}
+use Rattle.walk.proofs.Laws.{alerted_at}
 use native.Mathlib.Omega.{arith}
 use borrow.Author.Rules.{rules}
 use Rattle.walk.proofs.alert_of.Statement.{statement}
@@ -26,7 +26,7 @@ same_length : tie.Need-same-length
 same_length c = search rules
 
 returns : tie.Need-returns
-returns c = let a = c.before.before.before.before.before.before.before.before.before.before.before.args in alerted-at a.t.now a.p c.before.before.before.before.before.before.before.before.before.before.before.requires.1 c.before.before.before.before.before.before.before.before.before.before.before.requires.0 c.before.before.before.before.before.before.before.before.owner_at.ensures c.before.before.before.before.before.before.alert-at.ensures c.before.before.before.before.count_at.ensures c.before.before.by-alert.ensures
+returns c = let a = c.before.before.before.before.before.before.before.before.before.before.before.args in alerted_at a.t.now a.p c.before.before.before.before.before.before.before.before.before.before.before.requires.1 c.before.before.before.before.before.before.before.before.before.before.before.requires.0 c.before.before.before.before.before.before.before.before.owner_at.ensures c.before.before.before.before.before.before.alert-at.ensures c.before.before.before.before.count_at.ensures c.before.before.by-alert.ensures
 
 pub alert-of-spec : {M : Type 1} → statement M
 alert-of-spec =

@@ -1,5 +1,5 @@
 use Rattle.walk.proofs.Laws.{taken_at}
-use Rattle.tables.proofs.Laws.{count-le}
+use Rattle.tables.proofs.Laws.{count_le}
 use lib.Seq.{length-take-le}
 use mathlib.Core.Path.{sym}
 use native.Mathlib.Omega.{arith}
@@ -23,10 +23,10 @@ copy-list-requires : tie.Need-copy-list-requires
 copy-list-requires c κs = search rules
 
 array-share-prefix-list : tie.Need-array-share-prefix-list
-array-share-prefix-list c = omega (arith, count-le c.before.before.before.before.before.before.before.before.args.t.now c.before.before.before.before.before.before.before.before.args.p, c.before.before.before.count_at.ensures, c.before.copy-list.ensures.0)
+array-share-prefix-list c = omega (arith, count_le c.before.before.before.before.before.before.before.before.args.t.now c.before.before.before.before.before.before.before.before.args.p, c.before.before.before.count_at.ensures, c.before.copy-list.ensures.0)
 
 slice-aggregate-take-list : tie.Need-slice-aggregate-take-list
-slice-aggregate-take-list c = sym (length-take-le c.before.before.before.before.count_at.result c.before.before.copy-list.result (omega (arith, count-le c.before.before.before.before.before.before.before.before.before.args.t.now c.before.before.before.before.before.before.before.before.before.args.p, c.before.before.before.before.count_at.ensures, c.before.before.copy-list.ensures.0)))
+slice-aggregate-take-list c = sym (length-take-le c.before.before.before.before.count_at.result c.before.before.copy-list.result (omega (arith, count_le c.before.before.before.before.before.before.before.before.before.args.t.now c.before.before.before.before.before.before.before.before.before.args.p, c.before.before.before.before.count_at.ensures, c.before.before.copy-list.ensures.0)))
 
 take-list-requires : tie.Need-take-list-requires
 take-list-requires c κs = search rules

@@ -1,4 +1,4 @@
-use Rattle.walk.proofs.Laws.{any-alerted, any-taken}
+use Rattle.walk.proofs.Laws.{any_alerted, any_taken}
 use native.Mathlib.Omega.{arith}
 use borrow.Author.Rules.{rules}
 use Rattle.walk.proofs.any_at.Statement.{statement}
@@ -25,7 +25,7 @@ same_length : tie.Need-same-length
 same_length c = search rules
 
 returns : tie.Need-returns
-returns c = let a = c.before.before.before.before.before.before.before.before.before.before.args in any-alerted a.t.now a.p c.before.before.before.before.before.before.before.before.before.before.requires.1 c.before.before.before.before.before.before.before.before.before.before.requires.0 c.before.before.before.before.before.before.before.look_at.ensures c.before.before.before.before.before.count_at.ensures c.before.before.before.before.if1.true c.before.before.alert-of.ensures
+returns c = let a = c.before.before.before.before.before.before.before.before.before.before.args in any_alerted a.t.now a.p c.before.before.before.before.before.before.before.before.before.before.requires.1 c.before.before.before.before.before.before.before.before.before.before.requires.0 c.before.before.before.before.before.before.before.look_at.ensures c.before.before.before.before.before.count_at.ensures c.before.before.before.before.if1.true c.before.before.alert-of.ensures
 
 owner-at-requires : tie.Need-owner-at-requires
 owner-at-requires c κs = search rules
@@ -40,7 +40,7 @@ same-length-2 : tie.Need-same-length-2
 same-length-2 c = search rules
 
 returns-2 : tie.Need-returns-2
-returns-2 c = let a = c.before.before.before.before.before.before.before.before.before.before.before.before.before.before.args in any-taken a.t.now a.p c.before.before.before.before.before.before.before.before.before.before.before.before.before.before.requires.1 c.before.before.before.before.before.before.before.before.before.before.before.before.before.before.requires.0 c.before.before.before.before.before.before.before.before.before.before.before.look_at.ensures c.before.before.before.before.before.before.before.before.before.count_at.ensures c.before.before.before.before.before.before.before.before.if1.false c.before.before.before.before.before.before.owner_at.ensures c.before.before.before.before.listed.ensures c.before.before.take-one.ensures
+returns-2 c = let a = c.before.before.before.before.before.before.before.before.before.before.before.before.before.before.args in any_taken a.t.now a.p c.before.before.before.before.before.before.before.before.before.before.before.before.before.before.requires.1 c.before.before.before.before.before.before.before.before.before.before.before.before.before.before.requires.0 c.before.before.before.before.before.before.before.before.before.before.before.look_at.ensures c.before.before.before.before.before.before.before.before.before.count_at.ensures c.before.before.before.before.before.before.before.before.if1.false c.before.before.before.before.before.before.owner_at.ensures c.before.before.before.before.listed.ensures c.before.before.take-one.ensures
 
 pub any-at-spec : {M : Type 1} → statement M
 any-at-spec =

@@ -1,4 +1,4 @@
-use Rattle.walk.proofs.Laws.{looked-at}
+use Rattle.walk.proofs.Laws.{looked_at}
 use native.Mathlib.Omega.{arith}
 use borrow.Author.Rules.{rules}
 use Rattle.walk.proofs.look_at.Statement.{statement}
@@ -19,7 +19,7 @@ look-any-requires : tie.Need-look-any-requires
 look-any-requires c κs = search rules
 
 returns : tie.Need-returns
-returns c = let a = c.before.before.before.before.args in looked-at a.t.now a.p c.before.before.owner_at.ensures c.before.list-of.ensures c.look-any.ensures
+returns c = let a = c.before.before.before.before.args in looked_at a.t.now a.p c.before.before.owner_at.ensures c.before.list-of.ensures c.look-any.ensures
 
 pub look-at-spec : {M : Type 1} → statement M
 look-at-spec = tie.close (tie.spec owner-at-requires list-of-requires look-any-requires returns)

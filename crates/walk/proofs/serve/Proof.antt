@@ -1,4 +1,4 @@
-use Rattle.walk.proofs.Laws.{settle-by}
+use Rattle.walk.proofs.Laws.{settle_by}
 use native.Mathlib.Omega.{arith}
 use borrow.Author.Rules.{rules}
 use Rattle.walk.proofs.serve.Statement.{statement}
@@ -25,7 +25,7 @@ same-length-2 : tie.Need-same-length-2
 same-length-2 c = search rules
 
 returns : tie.Need-returns
-returns c = let a = c.before.before.before.before.before.before.before.before.before.before.before.before.before.before.before.args in settle-by a.t.now a.wake.now a.p a.k a.by c.before.before.before.before.before.before.before.before.before.before.before.ticket-at.ensures c.before.before.before.before.before.before.before.before.before.try-by.ensures c.before.before.before.before.settle.ensures
+returns c = let a = c.before.before.before.before.before.before.before.before.before.before.before.before.before.before.before.args in settle_by a.t.now a.wake.now a.p a.k a.by c.before.before.before.before.before.before.before.before.before.before.before.ticket-at.ensures c.before.before.before.before.before.before.before.before.before.try-by.ensures c.before.before.before.before.settle.ensures
 
 pub serve-spec : {M : Type 1} → statement M
 serve-spec =

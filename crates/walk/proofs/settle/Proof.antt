@@ -1,5 +1,5 @@
-use Rattle.walk.proofs.Laws.{settled-not, settled-left}
-use Rattle.attempt.specs.Values.{triedBy}
+use Rattle.walk.proofs.Laws.{settled_not, settled_left}
+use Rattle.attempt.specs.Values.{tried_by}
 use native.Mathlib.Omega.{arith}
 use borrow.Author.Rules.{rules}
 use Rattle.walk.proofs.settle.Statement.{statement}
@@ -9,7 +9,7 @@ use Rattle.walk.proofs.settle.Lts as lts
 use Rattle.ending.proofs.leave.Reads as leave-reads
 
 returns : tie.Need-returns
-returns c = let a = c.before.before.before.before.args in settled-not (triedBy a.a a.t.now) a.p a.told a.ticket a.wake.now c.if1.true
+returns c = let a = c.before.before.before.before.args in settled_not (tried_by a.a a.t.now) a.p a.told a.ticket a.wake.now c.if1.true
 
 cast-leave : tie.Need-overflow-cast-leave
 cast-leave c = search rules
@@ -27,7 +27,7 @@ same-length-2 : tie.Need-same-length-2
 same-length-2 c = search rules
 
 returns-2 : tie.Need-returns-2
-returns-2 c = let a = c.before.before.before.before.before.before.before.before.before.before.before.before.args in settled-left (triedBy a.a a.t.now) a.p a.told a.ticket a.wake.now c.before.before.before.before.before.before.before.before.if1.false c.before.before.before.before.leave.ensures.0 c.before.before.before.before.leave.ensures.1
+returns-2 c = let a = c.before.before.before.before.before.before.before.before.before.before.before.before.args in settled_left (tried_by a.a a.t.now) a.p a.told a.ticket a.wake.now c.before.before.before.before.before.before.before.before.if1.false c.before.before.before.before.leave.ensures.0 c.before.before.before.before.leave.ensures.1
 
 pub settle-spec : {M : Type 1} → statement M
 settle-spec =
