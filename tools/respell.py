@@ -21,13 +21,15 @@ FIELD = re.compile(r"^\s+(?:pub\s+)?(?P<name>[A-Za-z][\w'-]*)\s*(?:\{[^}]*\}\s*)
 # A lemma that would get the name of the function that it is about gets _lem, as in the kit's own library. These three had
 # that name from port.py on; in crate refine, and where it is imported from there, it is the lemma.
 LEMMAS = {"owner_at": "owner_at_lem", "count_at": "count_at_lem", "put_record": "put_record_lem"}
+# Variables that many lines bind.
+VARIABLES = {"wakeUp": "wake_up"}
 # Modules with a name that Rattle makes itself.
 MODULES = [("crates/reader/specs/Contracts.antt", "crates/reader/specs/Values.antt", "reader.specs.Contracts", "reader.specs.Values")]
 
 
 def snake(name):
     out = name.replace("-", "_")
-    out = re.sub(r"(?<=[a-z0-9])([A-Z])", lambda m: "_" + m.group(1).lower(), out)
+    out = re.sub(r"(?<=[a-zA-Z0-9])([A-Z])", lambda m: "_" + m.group(1).lower(), out)
     return out
 
 
@@ -48,6 +50,12 @@ def defined():
             m = FIELD.match(line)
             if m and not re.match(r"^\s+(let|in|elim|λ|where)\b", line):
                 names[m.group("name")].add(path)
+            # several names before one colon, as the constructors of a data; and operators, as ◌isIn◌
+            m = re.match(r"^\s*(?:abbrev |unfoldable )?(?:pub )?([a-z◌][\w'◌-]*(?: [a-z◌][\w'◌-]*)*) (?:\{\w+\} )?:\s", line)
+            for word in m.group(1).split() if m and not re.match(r"^\s+(let|in|elim|where|λ)\b", line) else []:
+                names[word.strip("◌")].add(path)
+                if "◌" in word:
+                    names[word].add(path)
             # constructors on one line of a data: | a : T
             for c in re.findall(r"(?:^|\|)\s*([a-z][\w'-]*)\s*:", line) if line.startswith((" ", "|")) else []:
                 names[c].add(path)
@@ -58,7 +66,8 @@ def mapping():
     names = defined()
     turned = [n for n in names if not n[0].isupper() and re.search(r"[A-Z-]", n)]
     taken = set(names) | {snake(n) for n in turned if "-" not in n}
-    new = {n: snake(n) + ("_lem" if "-" in n and snake(n) in taken else "") for n in turned}
+    new = dict(VARIABLES)
+    new |= {n: snake(n) + ("_lem" if "-" in n and snake(n) in taken else "") for n in turned}
     return new, names
 
 
@@ -131,10 +140,11 @@ def main(argv):
             edit(lib, lambda t: t.replace("mod " + old_module.split(".")[-1], "mod " + new_module.split(".")[-1]))
             for p, _ in files():
                 edit(p, lambda t: t.replace(old_module, new_module))
+    done = any("owner_at_lem" in open(p, encoding="utf-8").read() for p in glob.glob("crates/refine/proofs/*.antt"))
     for p in glob.glob("crates/*/proofs/**/*.antt", recursive=True):
         text = open(p, encoding="utf-8").read()
         cited = re.findall(r"^use Rattle\.refine\.proofs\.\w+\.\{(.*)\}", text, re.M)
-        here = {k: v for k, v in LEMMAS.items() if p.startswith("crates/refine/") or any(re.search(r"\b" + k + r"\b", c) for c in cited)}
+        here = {k: v for k, v in LEMMAS.items() if not done and (p.startswith("crates/refine/") or any(re.search(r"\b" + k + r"\b", c) for c in cited))}
         if here:
             edit(p, lambda t: in_walk(t, here) if "/proofs/" in p and p.count("/") > 3 else respell(t, here))
     changed = 0

@@ -5,7 +5,7 @@ use mathlib.Core.Bool.{Bool, true, false, not, cond}
 use mathlib.Core.List.{List}
 use borrow.Author.Tests.{lt-ltb, le-ltb, eq-eqb, ne_eqb}
 use Rattle.model.specs.Sizes.{object_places, wait_places}
-use Rattle.model.specs.Calls.{Lent, aMutex}
+use Rattle.model.specs.Calls.{Lent, a_mutex}
 use Rattle.cells.specs.Fold.{some_below}
 use Rattle.cells.specs.Objects.{Fields, no_fields, put_fields, named, store, Changed, switch_fields}
 use Rattle.cells.specs.Waits.{ticket_at, names_at, clear_wait}
@@ -57,15 +57,15 @@ module _ (t : List ℕ) (l : Lent) where
     pub pair_none : {kind : ℕ} → (x.kind ≡ kind → ⊥) → refused_with 1 t l ≡ read_pair kind h t l
     pair_none {kind} n = rw (sym o, ne_eqb x.kind kind n)
 
-    pub mutex_none : (x.kind ≡ 2 → ⊥) → refused_with 1 t l ≡ read_cells aMutex h t l
+    pub mutex_none : (x.kind ≡ 2 → ⊥) → refused_with 1 t l ≡ read_cells a_mutex h t l
     unfolding read_cells
     mutex_none n = rw (sym o, ne_eqb x.kind 2 n)
 
-    pub mutex_abandoned : x.kind ≡ 2 → 0 < x.attribute → answered 4 0 0 t l ≡ read_cells aMutex h t l
+    pub mutex_abandoned : x.kind ≡ 2 → 0 < x.attribute → answered 4 0 0 t l ≡ read_cells a_mutex h t l
     unfolding read_cells
     mutex_abandoned e a = rw (sym o, eq-eqb x.kind 2 e, lt-ltb 0 x.attribute a)
 
-    pub mutex_read : x.kind ≡ 2 → x.attribute ≤ 0 → answered 0 x.owner x.count t l ≡ read_cells aMutex h t l
+    pub mutex_read : x.kind ≡ 2 → x.attribute ≤ 0 → answered 0 x.owner x.count t l ≡ read_cells a_mutex h t l
     unfolding read_cells
     mutex_read e a = rw (sym o, eq-eqb x.kind 2 e, le-ltb 0 x.attribute a)
 

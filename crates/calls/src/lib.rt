@@ -2,7 +2,7 @@
 // have 32 bits.
 ghost use Rattle.std.specs.Prelude.{◌≡◌, [], ◌<◌, length, true};
 ghost use Rattle.model.specs.Sizes.{wait_places};
-ghost use Rattle.model.specs.Calls.{nothing_lent, aSemaphore, aMutex, anEvent};
+ghost use Rattle.model.specs.Calls.{nothing_lent, a_semaphore, a_mutex, an_event};
 ghost use Rattle.model.specs.Layout.{table_length};
 ghost use Rattle.cells.specs.Fold.{some_below};
 ghost use Rattle.cells.specs.Validity.{valid_cells};
@@ -124,14 +124,14 @@ fn read_pair(t: &[u64], h: u64, kind: u64) -> Numbers
 
 pub fn read_semaphore(t: &[u64], h: u64) -> Numbers
     requires { (length t.now ≡ table_length) × (valid_cells t.now ≡ true) }
-    ensures { left_by result t.now ≡ read_cells aSemaphore h t.now nothing_lent }
+    ensures { left_by result t.now ≡ read_cells a_semaphore h t.now nothing_lent }
 {
     read_pair(t, h, Semaphore::KIND)
 }
 
 pub fn read_event(t: &[u64], h: u64) -> Numbers
     requires { (length t.now ≡ table_length) × (valid_cells t.now ≡ true) }
-    ensures { left_by result t.now ≡ read_cells anEvent h t.now nothing_lent }
+    ensures { left_by result t.now ≡ read_cells an_event h t.now nothing_lent }
 {
     read_pair(t, h, Event::KIND)
 }
@@ -139,7 +139,7 @@ pub fn read_event(t: &[u64], h: u64) -> Numbers
 // An abandoned mutex is told by its answer alone.
 pub fn read_mutex(t: &[u64], h: u64) -> Numbers
     requires { (length t.now ≡ table_length) × (valid_cells t.now ≡ true) }
-    ensures { left_by result t.now ≡ read_cells aMutex h t.now nothing_lent }
+    ensures { left_by result t.now ≡ read_cells a_mutex h t.now nothing_lent }
 {
     let o = tables::named(t, h);
     if o.kind != Mutex::KIND {

@@ -3,7 +3,7 @@ use Rattle.std.specs.Prelude.{ℕ, zero, suc, ◌+◌, ◌-◌, ◌*◌, List, [
 use Rattle.model.specs.Sizes.{object_places, wait_places, max_listed, word64, wake_length, snapshot_buffer}
 use Rattle.model.specs.Basics.{bit, any_of, overwrite}
 use Rattle.model.specs.Waits.{Mode, any, all}
-use Rattle.model.specs.Calls.{Operation, create, close, resetEvent, read, signal, wait, expire, cancel, snapshot, Kind, aSemaphore, aMutex, anEvent, Signal, post, unlock, kill, setEvent, pulseEvent, Lent, Call, bad_new, time_up, nothing_lent}
+use Rattle.model.specs.Calls.{Operation, create, close, reset_event, read, signal, wait, expire, cancel, snapshot, Kind, a_semaphore, a_mutex, an_event, Signal, post, unlock, kill, set_event, pulse_event, Lent, Call, bad_new, time_up, nothing_lent}
 use Rattle.model.specs.Layout.{header_size, table_length, mode_cell}
 use Rattle.cells.specs.Fold.{fold_below, some_below, search_from}
 use Rattle.cells.specs.Objects.{Fields, fields, no_fields, fields_at, put_fields, named, store, Changed, post_fields, unlock_fields, kill_fields, switch_fields}
@@ -41,9 +41,9 @@ create_cells bad x t l = let p = empty_object t in
     cond bad (refused_with 1 t l) (cond (ltb p object_places) (answered 0 (p + 1) 0 (put_fields t p x) l) (refused_with 7 t l))
 
 abbrev pub new_fields : Kind → ℕ → ℕ → Fields
-new_fields aSemaphore c m = fields 1 c 0 m
-new_fields aMutex o c = fields 2 c o 0
-new_fields anEvent s m = fields 3 (bit (not (eqb s 0))) 0 (bit (not (eqb m 0)))
+new_fields a_semaphore c m = fields 1 c 0 m
+new_fields a_mutex o c = fields 2 c o 0
+new_fields an_event s m = fields 3 (bit (not (eqb s 0))) 0 (bit (not (eqb m 0)))
 
 -- CLOSING: a queued wait names h
 unfoldable pub busy_at : List ℕ → ℕ → ℕ → Bool
@@ -57,9 +57,9 @@ abbrev pub read_pair : ℕ → ℕ → List ℕ → Lent → Result
 read_pair kind h t l = cond (eqb (named t h).kind kind) (answered 0 (named t h).count (named t h).attribute t l) (refused_with 1 t l)
 
 abbrev pub read_on : Kind → Fields → List ℕ → Lent → Result
-read_on aSemaphore x t l = cond (eqb x.kind 1) (answered 0 x.count x.attribute t l) (refused_with 1 t l)
-read_on aMutex x t l = cond (eqb x.kind 2) (cond (ltb 0 x.attribute) (answered 4 0 0 t l) (answered 0 x.owner x.count t l)) (refused_with 1 t l)
-read_on anEvent x t l = cond (eqb x.kind 3) (answered 0 x.count x.attribute t l) (refused_with 1 t l)
+read_on a_semaphore x t l = cond (eqb x.kind 1) (answered 0 x.count x.attribute t l) (refused_with 1 t l)
+read_on a_mutex x t l = cond (eqb x.kind 2) (cond (ltb 0 x.attribute) (answered 4 0 0 t l) (answered 0 x.owner x.count t l)) (refused_with 1 t l)
+read_on an_event x t l = cond (eqb x.kind 3) (answered 0 x.count x.attribute t l) (refused_with 1 t l)
 
 unfoldable pub read_cells : Kind → ℕ → List ℕ → Lent → Result
 read_cells k h t l = read_on k (named t h) t l
@@ -75,22 +75,22 @@ abbrev pub signal_fields : Signal → Fields → Changed
 signal_fields (post add) x = post_fields add x
 signal_fields (unlock asking) x = unlock_fields asking x
 signal_fields (kill asking) x = kill_fields asking x
-signal_fields setEvent x = switch_fields 1 x
-signal_fields pulseEvent x = switch_fields 1 x
+signal_fields set_event x = switch_fields 1 x
+signal_fields pulse_event x = switch_fields 1 x
 
 abbrev pub previous_of : Signal → Fields → ℕ
 previous_of (post add) x = x.count
 previous_of (unlock asking) x = x.count
 previous_of (kill asking) x = 0
-previous_of setEvent x = x.count
-previous_of pulseEvent x = x.count
+previous_of set_event x = x.count
+previous_of pulse_event x = x.count
 
 abbrev pub cleared_after : Signal → ℕ → Walked → Walked
 cleared_after (post add) h v = v
 cleared_after (unlock asking) h v = v
 cleared_after (kill asking) h v = v
-cleared_after setEvent h v = v
-cleared_after pulseEvent h v = walked v.count (store v.tables h (switch_fields 0 (named v.tables h)).next) v.wake
+cleared_after set_event h v = v
+cleared_after pulse_event h v = walked v.count (store v.tables h (switch_fields 0 (named v.tables h)).next) v.wake
 
 abbrev pub signal_on : Signal → ℕ → Fields → List ℕ → Lent → Result
 signal_on how h x t l = let r = signal_fields how x in
@@ -160,7 +160,7 @@ snapshot_cells t l = cond (ltb (length l.buffer) snapshot_buffer) (refused_with 
 abbrev pub on_cells : Operation → List ℕ → Lent → Result
 on_cells (create k x y) t l = create_cells (bad_new k x y) (new_fields k x y) t l
 on_cells (close h) t l = close_cells h t l
-on_cells (resetEvent h) t l = reset_cells h t l
+on_cells (reset_event h) t l = reset_cells h t l
 on_cells (read k h) t l = read_cells k h t l
 on_cells (signal how h) t l = signal_cells how h t l
 on_cells (wait mode hs o f p a time now) t l = wait_on_cells (mode_cell mode) hs o f p a time now t l

@@ -9,7 +9,7 @@ use lib.Dec.{eqb, ltb, leb, leb-suc-suc}
 use Rattle.model.specs.Basics.{bit, all_of}
 use Rattle.model.specs.Sizes.{mutex_ceiling, word32}
 use Rattle.model.specs.Objects.{never_signaled}
-use Rattle.model.specs.Calls.{Kind, aSemaphore, aMutex, anEvent, bad_new}
+use Rattle.model.specs.Calls.{Kind, a_semaphore, a_mutex, an_event, bad_new}
 use Rattle.model.proofs.Logic.{by_bool, not_twice, not_or, one_or_more}
 use Rattle.cells.specs.Objects.{Fields, fields, no_fields, Changed, changed, acquired_fields, post_fields, if_held, unlock_fields}
 use Rattle.cells.specs.Validity.{valid_fields}
@@ -64,9 +64,9 @@ bit_small false = refl
 
 new_valid : (k : Kind) (x y : ℕ) → x < word32 → y < word32 → valid_fields (new_fields k x y) ≡ not (bad_new k x y)
 unfolding valid_fields all_of
-new_valid aSemaphore x y hx hy = rw (lt-ltb y word32 hy, and-true (not (never_signaled y)), not_more x y) (not_or (ltb y x) (never_signaled y))
-new_valid aMutex x y hx hy = rw (lt-ltb x word32 hx, lt-ltb y word32 hy, and-true (eqb (bit (eqb x 0)) (bit (eqb y 0)))) (not_twice (eqb (bit (eqb x 0)) (bit (eqb y 0))))
-new_valid anEvent x y hx hy = rw (bit_small (not (eqb x 0)), bit_small (not (eqb y 0)))
+new_valid a_semaphore x y hx hy = rw (lt-ltb y word32 hy, and-true (not (never_signaled y)), not_more x y) (not_or (ltb y x) (never_signaled y))
+new_valid a_mutex x y hx hy = rw (lt-ltb x word32 hx, lt-ltb y word32 hy, and-true (eqb (bit (eqb x 0)) (bit (eqb y 0)))) (not_twice (eqb (bit (eqb x 0)) (bit (eqb y 0))))
+new_valid an_event x y hx hy = rw (bit_small (not (eqb x 0)), bit_small (not (eqb y 0)))
 
 turned : (b : Bool) (x y : Fields) → cond (not b) x y ≡ cond b y x
 turned true x y = refl

@@ -1,7 +1,7 @@
 // The kinds of object, each with its own limits, and an object by value with its rules.
 ghost use Rattle.std.specs.Prelude.{◌≡◌, not, cond, eqb};
 ghost use Rattle.model.specs.Basics.{bit};
-ghost use Rattle.model.specs.Calls.{aSemaphore, aMutex, anEvent, bad_new};
+ghost use Rattle.model.specs.Calls.{a_semaphore, a_mutex, an_event, bad_new};
 ghost use Rattle.cells.specs.Objects.{fields, no_fields, signaled_fields, acquired_fields, abandoned_fields};
 ghost use Rattle.cells.specs.Objects.{if_held, post_fields, unlock_fields, kill_fields, switch_fields};
 ghost use Rattle.cells.specs.Validity.{valid_fields};
@@ -90,9 +90,9 @@ impl Semaphore {
     }
 
     pub fn create(count: u32, max: u32) -> Creation
-        ensures ok { result.ok ≡ not (bad_new aSemaphore count max) }
+        ensures ok { result.ok ≡ not (bad_new a_semaphore count max) }
         ensures object { cells_of result.object
-            ≡ cond (bad_new aSemaphore count max) no_fields (new_fields aSemaphore count max) }
+            ≡ cond (bad_new a_semaphore count max) no_fields (new_fields a_semaphore count max) }
     {
         let s = Semaphore {
             count: count as u64,
@@ -104,7 +104,7 @@ impl Semaphore {
     }
 
     fn object(self) -> Object
-        ensures { cells_of result ≡ new_fields aSemaphore self.count self.max }
+        ensures { cells_of result ≡ new_fields a_semaphore self.count self.max }
     {
         Object {
             kind: Semaphore::KIND,
@@ -147,9 +147,9 @@ impl Mutex {
     }
 
     pub fn create(owner: u32, count: u32) -> Creation
-        ensures ok { result.ok ≡ not (bad_new aMutex owner count) }
+        ensures ok { result.ok ≡ not (bad_new a_mutex owner count) }
         ensures object { cells_of result.object
-            ≡ cond (bad_new aMutex owner count) no_fields (new_fields aMutex owner count) }
+            ≡ cond (bad_new a_mutex owner count) no_fields (new_fields a_mutex owner count) }
     {
         let m = Mutex {
             owner: owner as u64,
@@ -161,7 +161,7 @@ impl Mutex {
     }
 
     fn object(self) -> Object
-        ensures { cells_of result ≡ new_fields aMutex self.owner self.count }
+        ensures { cells_of result ≡ new_fields a_mutex self.owner self.count }
     {
         Object {
             kind: Mutex::KIND,
@@ -194,9 +194,9 @@ impl Event {
 
     // Any number but 0 means 1, so nothing is refused.
     pub fn create(signaled: u32, manual: u32) -> Creation
-        ensures ok { result.ok ≡ not (bad_new anEvent signaled manual) }
+        ensures ok { result.ok ≡ not (bad_new an_event signaled manual) }
         ensures object { cells_of result.object
-            ≡ cond (bad_new anEvent signaled manual) no_fields (new_fields anEvent signaled manual) }
+            ≡ cond (bad_new an_event signaled manual) no_fields (new_fields an_event signaled manual) }
     {
         let e = Event {
             signaled: flag(signaled),

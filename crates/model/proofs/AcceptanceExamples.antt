@@ -6,7 +6,7 @@ use mathlib.Core.List.{List, [], ◌∷◌, ◌++◌, map}
 use Prim.Native.Nat.{ℕ, suc, ◌-◌}
 use lib.ListN.{replicate}
 use Rattle.model.specs.Basics.{any_of, member, has_repeat, tabulate, joined}
-use Rattle.model.specs.Calls.{aSemaphore, aMutex, anEvent, post, unlock, kill, setEvent, pulseEvent, Operation}
+use Rattle.model.specs.Calls.{a_semaphore, a_mutex, an_event, post, unlock, kill, set_event, pulse_event, Operation}
 use Rattle.model.specs.Calls.{create, close, read, signal, wait, expire, cancel, wake_lent, Call, least}
 use Rattle.model.specs.Calls.{lowest_empty, all_occupied, waits_full, enqueue, refusals, admits, end_each, change, new_wait}
 use Rattle.model.specs.Snapshot.{ascii, digits_up_to, line, object_text, objects_text, object_count, wait_text}
@@ -47,21 +47,21 @@ abbrev for_none : Mode → ℕ → ℕ → ℕ → Operation
 for_none m alert timeout time = wait m [] 7 0 0 alert timeout time
 
 abbrev set_up : List Operation
-set_up = create aSemaphore 1 2 ∷ create anEvent 0 1 ∷ waits all (1 ∷ 2 ∷ []) 7 ∷ []
+set_up = create a_semaphore 1 2 ∷ create an_event 0 1 ∷ waits all (1 ∷ 2 ∷ []) 7 ∷ []
 
 abbrev pub examples : List (List Operation)
 examples =
-    (set_up ++ (signal setEvent 2 ∷ read aSemaphore 1 ∷ read anEvent 2 ∷ []))  -- P1, P2
-    ∷ (create aSemaphore 1 3 ∷ signal (post 2) 1 ∷ read aSemaphore 1 ∷ [])  -- P3
-    ∷ (create aSemaphore 1 3 ∷ signal (post 3) 1 ∷ read aSemaphore 1 ∷ [])  -- P4
-    ∷ (create anEvent 0 0 ∷ waits any (1 ∷ []) 7 ∷ waits any (1 ∷ []) 8 ∷ signal pulseEvent 1 ∷ read anEvent 1 ∷ [])  -- P5
-    ∷ (create anEvent 0 1 ∷ waits any (1 ∷ []) 7 ∷ waits any (1 ∷ []) 8 ∷ signal pulseEvent 1 ∷ read anEvent 1 ∷ [])  -- P6
-    ∷ (create aMutex 5 1 ∷ waits any (1 ∷ []) 6 ∷ waits any (1 ∷ []) 6 ∷ signal (unlock 5) 1 ∷ read aMutex 1 ∷ [])  -- P7
-    ∷ (create aMutex 5 1 ∷ waits any (1 ∷ []) 6 ∷ signal (kill 5) 1 ∷ read aMutex 1 ∷ [])  -- P8
-    ∷ (create aMutex 5 mutex_ceiling ∷ waits any (1 ∷ []) 5 ∷ signal (unlock 5) 1 ∷ read aMutex 1 ∷ [])  -- P9
-    ∷ (create anEvent 1 0 ∷ wait any (1 ∷ 1 ∷ []) 7 0 0 1 never 0 ∷ read anEvent 1 ∷ [])  -- P10
-    ∷ (create anEvent 0 0 ∷ wait any (1 ∷ []) 7 0 0 0 40 40 ∷ wait any (1 ∷ []) 7 0 0 0 41 40 ∷ [])  -- P11
-    ∷ (create anEvent 0 0 ∷ wait any (1 ∷ []) 7 0 0 0 never never ∷ [])  -- P12
+    (set_up ++ (signal set_event 2 ∷ read a_semaphore 1 ∷ read an_event 2 ∷ []))  -- P1, P2
+    ∷ (create a_semaphore 1 3 ∷ signal (post 2) 1 ∷ read a_semaphore 1 ∷ [])  -- P3
+    ∷ (create a_semaphore 1 3 ∷ signal (post 3) 1 ∷ read a_semaphore 1 ∷ [])  -- P4
+    ∷ (create an_event 0 0 ∷ waits any (1 ∷ []) 7 ∷ waits any (1 ∷ []) 8 ∷ signal pulse_event 1 ∷ read an_event 1 ∷ [])  -- P5
+    ∷ (create an_event 0 1 ∷ waits any (1 ∷ []) 7 ∷ waits any (1 ∷ []) 8 ∷ signal pulse_event 1 ∷ read an_event 1 ∷ [])  -- P6
+    ∷ (create a_mutex 5 1 ∷ waits any (1 ∷ []) 6 ∷ waits any (1 ∷ []) 6 ∷ signal (unlock 5) 1 ∷ read a_mutex 1 ∷ [])  -- P7
+    ∷ (create a_mutex 5 1 ∷ waits any (1 ∷ []) 6 ∷ signal (kill 5) 1 ∷ read a_mutex 1 ∷ [])  -- P8
+    ∷ (create a_mutex 5 mutex_ceiling ∷ waits any (1 ∷ []) 5 ∷ signal (unlock 5) 1 ∷ read a_mutex 1 ∷ [])  -- P9
+    ∷ (create an_event 1 0 ∷ wait any (1 ∷ 1 ∷ []) 7 0 0 1 never 0 ∷ read an_event 1 ∷ [])  -- P10
+    ∷ (create an_event 0 0 ∷ wait any (1 ∷ []) 7 0 0 0 40 40 ∷ wait any (1 ∷ []) 7 0 0 0 41 40 ∷ [])  -- P11
+    ∷ (create an_event 0 0 ∷ wait any (1 ∷ []) 7 0 0 0 never never ∷ [])  -- P12
     ∷ []
 
 abbrev pub expected : List (List Heard)
@@ -91,35 +91,35 @@ examples_reference = refl
 abbrev pub further_examples : List (List Operation)
 further_examples =
     -- lowest ticket first, not lowest place: the third wait stands in the first one's place
-    (create anEvent 0 0 ∷ waits any (1 ∷ []) 7 ∷ waits any (1 ∷ []) 8 ∷ cancel 1 ∷ waits any (1 ∷ []) 9 ∷ signal setEvent 1 ∷ [])
+    (create an_event 0 0 ∷ waits any (1 ∷ []) 7 ∷ waits any (1 ∷ []) 8 ∷ cancel 1 ∷ waits any (1 ∷ []) 9 ∷ signal set_event 1 ∷ [])
     -- a wait that can't be served does not stop the walk
-    ∷ (create aSemaphore 0 3 ∷ create anEvent 0 1 ∷ waits all (1 ∷ 2 ∷ []) 7 ∷ waits any (1 ∷ []) 8 ∷ signal (post 1) 1 ∷ read aSemaphore 1 ∷ [])
+    ∷ (create a_semaphore 0 3 ∷ create an_event 0 1 ∷ waits all (1 ∷ 2 ∷ []) 7 ∷ waits any (1 ∷ []) 8 ∷ signal (post 1) 1 ∷ read a_semaphore 1 ∷ [])
     -- an alert is a name, and comes after the list
-    ∷ (create aSemaphore 0 3 ∷ create anEvent 0 0 ∷ wait any (1 ∷ []) 7 0 0 2 never 0 ∷ signal setEvent 2 ∷ read anEvent 2 ∷ [])
-    ∷ (create aSemaphore 1 3 ∷ create anEvent 1 0 ∷ wait any (1 ∷ []) 7 0 0 2 never 0 ∷ read aSemaphore 1 ∷ read anEvent 2 ∷ [])
+    ∷ (create a_semaphore 0 3 ∷ create an_event 0 0 ∷ wait any (1 ∷ []) 7 0 0 2 never 0 ∷ signal set_event 2 ∷ read an_event 2 ∷ [])
+    ∷ (create a_semaphore 1 3 ∷ create an_event 1 0 ∷ wait any (1 ∷ []) 7 0 0 2 never 0 ∷ read a_semaphore 1 ∷ read an_event 2 ∷ [])
     -- 0 is never a handle, nor is the number after the last place
-    ∷ (create aSemaphore 1 3 ∷ read aSemaphore 0 ∷ read aSemaphore (suc object_places) ∷ waits any (0 ∷ []) 7 ∷ close 0 ∷ [])
+    ∷ (create a_semaphore 1 3 ∷ read a_semaphore 0 ∷ read a_semaphore (suc object_places) ∷ waits any (0 ∷ []) 7 ∷ close 0 ∷ [])
     -- a wait for all takes nothing unless it takes all
-    ∷ (create aSemaphore 1 3 ∷ create aSemaphore 0 3 ∷ waits all (1 ∷ 2 ∷ []) 7 ∷ read aSemaphore 1 ∷ signal (post 1) 2 ∷ read aSemaphore 1 ∷ read aSemaphore 2 ∷ [])
+    ∷ (create a_semaphore 1 3 ∷ create a_semaphore 0 3 ∷ waits all (1 ∷ 2 ∷ []) 7 ∷ read a_semaphore 1 ∷ signal (post 1) 2 ∷ read a_semaphore 1 ∷ read a_semaphore 2 ∷ [])
     -- a wait for all ended by its alert answers 0, although an abandoned mutex is listed
-    ∷ (create aMutex 5 1 ∷ create aSemaphore 0 1 ∷ create anEvent 0 0 ∷ wait all (1 ∷ 2 ∷ []) 7 0 0 3 never 0 ∷ signal (kill 5) 1 ∷ signal setEvent 3 ∷ read aMutex 1 ∷ [])
+    ∷ (create a_mutex 5 1 ∷ create a_semaphore 0 1 ∷ create an_event 0 0 ∷ wait all (1 ∷ 2 ∷ []) 7 0 0 3 never 0 ∷ signal (kill 5) 1 ∷ signal set_event 3 ∷ read a_mutex 1 ∷ [])
     -- expire by clock and time, oldest first, and never is never
-    ∷ (create anEvent 0 0 ∷ wait any (1 ∷ []) 7 0 0 0 50 0 ∷ wait any (1 ∷ []) 7 1 0 0 50 0 ∷ wait any (1 ∷ []) 7 0 0 0 51 0 ∷ waits any (1 ∷ []) 7 ∷ expire 0 50 ∷ expire 1 never ∷ expire 2 0 ∷ expire 0 never ∷ cancel 4 ∷ [])
+    ∷ (create an_event 0 0 ∷ wait any (1 ∷ []) 7 0 0 0 50 0 ∷ wait any (1 ∷ []) 7 1 0 0 50 0 ∷ wait any (1 ∷ []) 7 0 0 0 51 0 ∷ waits any (1 ∷ []) 7 ∷ expire 0 50 ∷ expire 1 never ∷ expire 2 0 ∷ expire 0 never ∷ cancel 4 ∷ [])
     -- refusals of create, post, unlock, kill, close, cancel and the waits
-    ∷ (create aSemaphore 2 1 ∷ create aMutex 0 1 ∷ create aMutex 1 0 ∷ create aMutex 5 2 ∷ signal (unlock 0) 1 ∷ signal (unlock 6) 1 ∷ signal (kill 6) 1 ∷ signal setEvent 1 ∷ signal (post 0) 1
+    ∷ (create a_semaphore 2 1 ∷ create a_mutex 0 1 ∷ create a_mutex 1 0 ∷ create a_mutex 5 2 ∷ signal (unlock 0) 1 ∷ signal (unlock 6) 1 ∷ signal (kill 6) 1 ∷ signal set_event 1 ∷ signal (post 0) 1
     ∷ waits any (1 ∷ []) 6 ∷ close 1 ∷ cancel 2 ∷ cancel 0 ∷ waits all [] 6 ∷ wait any (1 ∷ []) 0 0 0 0 never 0 ∷ wait any (1 ∷ []) 6 2 0 0 never 0 ∷ wait any (1 ∷ []) 6 0 1 0 never 0
-    ∷ wait any (1 ∷ []) 6 0 0 1 never 0 ∷ waits all (1 ∷ 1 ∷ []) 6 ∷ cancel 1 ∷ close 1 ∷ read aMutex 1 ∷ [])
+    ∷ wait any (1 ∷ []) 6 0 0 1 never 0 ∷ waits all (1 ∷ 1 ∷ []) 6 ∷ cancel 1 ∷ close 1 ∷ read a_mutex 1 ∷ [])
     -- adding 0 is allowed; a full queue refuses a wait that must queue, and none that can be served at once
-    ∷ (create aSemaphore 1 3 ∷ signal (post 0) 1 ∷ read aSemaphore 1 ∷ create anEvent 0 0
+    ∷ (create a_semaphore 1 3 ∷ signal (post 0) 1 ∷ read a_semaphore 1 ∷ create an_event 0 0
     ∷ (replicate wait_places (waits any (2 ∷ []) 7) ++ (waits any (2 ∷ []) 7 ∷ waits any (2 ∷ 1 ∷ []) 7 ∷ [])))
     -- 1/13, no objects: woken by the alert with index 0, which names it (an auto event is cleared), and a manual one, also at
     -- once; ended by time, also at once; cancelled; for all refused
-    ∷ (create anEvent 0 0 ∷ create anEvent 0 1 ∷ for_none any 1 never 0 ∷ close 1 ∷ signal setEvent 1 ∷ read anEvent 1
-    ∷ for_none any 2 never 0 ∷ signal setEvent 2 ∷ for_none any 2 never 0 ∷ read anEvent 2
+    ∷ (create an_event 0 0 ∷ create an_event 0 1 ∷ for_none any 1 never 0 ∷ close 1 ∷ signal set_event 1 ∷ read an_event 1
+    ∷ for_none any 2 never 0 ∷ signal set_event 2 ∷ for_none any 2 never 0 ∷ read an_event 2
     ∷ for_none any 0 50 0 ∷ expire 0 49 ∷ expire 0 50 ∷ for_none any 0 50 50 ∷ for_none any 0 never 0 ∷ expire 0 never ∷ cancel 4
     ∷ for_none all 0 never 0 ∷ for_none all 2 never 0 ∷ [])
     -- 4/13: a maximum of 0 is refused, one of 1 with either count is not; at count 0 it takes a post of 1
-    ∷ (create aSemaphore 0 0 ∷ create aSemaphore 1 0 ∷ create aSemaphore 0 1 ∷ create aSemaphore 1 1 ∷ read aSemaphore 1 ∷ read aSemaphore 2
+    ∷ (create a_semaphore 0 0 ∷ create a_semaphore 1 0 ∷ create a_semaphore 0 1 ∷ create a_semaphore 1 1 ∷ read a_semaphore 1 ∷ read a_semaphore 2
     ∷ signal (post 1) 1 ∷ signal (post 1) 2 ∷ [])
     ∷ []
 
@@ -171,10 +171,10 @@ example_snapshot = refl
 -- Two histories whose states differ in the place of ticket 2 alone (Alike.antt): ticket 1 is cancelled after 2 is queued, or
 -- before.
 abbrev pub cancelled_late : List Operation
-cancelled_late = create anEvent 0 0 ∷ waits any (1 ∷ []) 7 ∷ waits any (1 ∷ []) 7 ∷ cancel 1 ∷ []
+cancelled_late = create an_event 0 0 ∷ waits any (1 ∷ []) 7 ∷ waits any (1 ∷ []) 7 ∷ cancel 1 ∷ []
 
 abbrev pub cancelled_early : List Operation
-cancelled_early = create anEvent 0 0 ∷ waits any (1 ∷ []) 7 ∷ cancel 1 ∷ waits any (1 ∷ []) 7 ∷ []
+cancelled_early = create an_event 0 0 ∷ waits any (1 ∷ []) 7 ∷ cancel 1 ∷ waits any (1 ∷ []) 7 ∷ []
 
 abbrev pub second : WaitPlace
 second = waiting (new_wait any (1 ∷ []) 7 0 0 never 2)

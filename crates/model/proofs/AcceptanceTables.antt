@@ -13,7 +13,7 @@ use Rattle.model.specs.Basics.{any_of, all_of, member, has_repeat, tabulate, joi
 use Rattle.model.specs.Objects.{empty, mutex}
 use Rattle.model.specs.Waits.{any, all, free, waiting, State, object_at, any_waiting, lowest_signaled, all_signaled, look, attempt, acquire_each, any_abandoned, dequeue}
 use Rattle.model.specs.Waits.{oldest, concerned_by, serve, try_to_serve, walk_queue}
-use Rattle.model.specs.Calls.{aSemaphore, anEvent, setEvent, unlock, create, resetEvent, read, signal, wait, expire, cancel}
+use Rattle.model.specs.Calls.{a_semaphore, an_event, set_event, unlock, create, reset_event, read, signal, wait, expire, cancel}
 use Rattle.model.specs.Calls.{Call, nothing_lent, wake_lent, asks, least, lowest_empty, all_occupied, waits_full, enqueue}
 use Rattle.model.specs.Calls.{refusals, admits, end_each, change}
 use Rattle.model.specs.Snapshot.{ascii, digits_up_to, line, object_text, objects_text, object_count, wait_text}
@@ -127,7 +127,7 @@ view_readings = (refl, refl)
 abbrev pub TableReadings : Type 0
 TableReadings =
     -- P2
-    (seen (table_step (cells p1) (asks (signal setEvent 2) (wake_lent (sevens wake_length))))
+    (seen (table_step (cells p1) (asks (signal set_event 2) (wake_lent (sevens wake_length))))
     ≡ sees (0 ∷ 0 ∷ 0 ∷ 1 ∷ []) (wake_lent (1 ∷ 0 ∷ 0 ∷ sevens (wake_length - 3))) (cells p2))
     -- the records by ticket, from the front; the rest is unaltered; the front that is handed out, and none after a refusal
     × (seen (table_step (cells timed) (asks (expire 0 50) (wake_lent (sevens (wake_length + 1)))))
@@ -136,25 +136,25 @@ TableReadings =
     ≡ hands (0 ∷ 0 ∷ 2 ∷ []) (3 ∷ 5 ∷ 0 ∷ 5 ∷ 5 ∷ 0 ∷ []) (cells (one_event 6 [])))
     × (handed (table_step (cells timed) (asks (expire 2 50) (wake_lent (sevens wake_length)))) ≡ hands (1 ∷ 0 ∷ 0 ∷ []) [] (cells timed))
     -- one answer each of 7, 8, 9 and 12
-    × (seen (table_step (cells full) (asks (create aSemaphore 0 1) nothing_lent)) ≡ sees (7 ∷ 0 ∷ 0 ∷ 0 ∷ []) nothing_lent (cells full))
+    × (seen (table_step (cells full) (asks (create a_semaphore 0 1) nothing_lent)) ≡ sees (7 ∷ 0 ∷ 0 ∷ 0 ∷ []) nothing_lent (cells full))
     × (seen (table_step (cells spent) (asks (wait any (1 ∷ []) 7 0 0 0 never 0) nothing_lent))
     ≡ sees (8 ∷ 0 ∷ 0 ∷ 0 ∷ []) nothing_lent (cells spent))
-    × (seen (table_step (cells damaged) (asks (signal setEvent 2) (wake_lent (sevens wake_length))))
+    × (seen (table_step (cells damaged) (asks (signal set_event 2) (wake_lent (sevens wake_length))))
     ≡ sees (9 ∷ 0 ∷ 0 ∷ 0 ∷ []) (wake_lent (sevens wake_length)) (cells damaged))
     × (seen (table_step (cells timed) (asks (expire 0 50) (wake_lent (sevens (wake_length - 1)))))
     ≡ sees (12 ∷ 0 ∷ 0 ∷ 0 ∷ []) (wake_lent (sevens (wake_length - 1))) (cells timed))
     -- an unlock above zero, a reset, flags above 1
     × (seen (table_step (cells held) (asks (signal (unlock 5) 1) (wake_lent (sevens wake_length))))
     ≡ sees (0 ∷ 3 ∷ 0 ∷ 0 ∷ []) (wake_lent (sevens wake_length)) (cells (held_by5 2)))
-    × (seen (table_step (cells p2) (asks (resetEvent 2) nothing_lent))
+    × (seen (table_step (cells p2) (asks (reset_event 2) nothing_lent))
     ≡ sees (0 ∷ 1 ∷ 0 ∷ 0 ∷ []) nothing_lent (cells (rows 2 ((1 ∷ 0 ∷ 0 ∷ 2 ∷ []) ∷ (3 ∷ 0 ∷ 0 ∷ 1 ∷ []) ∷ []) [])))
-    × (seen (table_step (cells p2) (asks (create anEvent 2 5) nothing_lent))
+    × (seen (table_step (cells p2) (asks (create an_event 2 5) nothing_lent))
     ≡ sees (0 ∷ 3 ∷ 0 ∷ 0 ∷ []) nothing_lent
     (cells (rows 2 ((1 ∷ 0 ∷ 0 ∷ 2 ∷ []) ∷ (3 ∷ 1 ∷ 0 ∷ 1 ∷ []) ∷ (3 ∷ 1 ∷ 0 ∷ 1 ∷ []) ∷ []) [])))
     -- 1/13, no objects: queued; woken by the alert, which is cleared; due; cancelled; for all refused, and damage in tables
     × (seen (table_step (cells (one_event 1 [])) (asks (wait any [] 7 0 0 1 50 0) nothing_lent))
     ≡ sees (11 ∷ 0 ∷ 1 ∷ 0 ∷ []) nothing_lent (cells (of_none 0)))
-    × (seen (table_step (cells (of_none 0)) (asks (signal setEvent 1) (wake_lent (sevens wake_length))))
+    × (seen (table_step (cells (of_none 0)) (asks (signal set_event 1) (wake_lent (sevens wake_length))))
     ≡ sees (0 ∷ 0 ∷ 0 ∷ 1 ∷ []) (wake_lent (1 ∷ 0 ∷ 0 ∷ sevens (wake_length - 3))) (cells (one_event 2 [])))
     × (seen (table_step (cells (of_none 0)) (asks (expire 0 50) (wake_lent (sevens wake_length))))
     ≡ sees (0 ∷ 0 ∷ 0 ∷ 1 ∷ []) (wake_lent (1 ∷ 5 ∷ 0 ∷ sevens (wake_length - 3))) (cells (one_event 2 [])))
@@ -163,11 +163,11 @@ TableReadings =
     ≡ sees (1 ∷ 0 ∷ 0 ∷ 0 ∷ []) nothing_lent (cells (one_event 1 [])))
     × (seen (table_step (cells (of_none 1)) (asks (cancel 1) nothing_lent)) ≡ sees (9 ∷ 0 ∷ 0 ∷ 0 ∷ []) nothing_lent (cells (of_none 1)))
     -- 4/13: a maximum of 0 is damage, one of 1 is not; it is refused with 1 also where every place is in use, before 7
-    × (seen (table_step (cells (of_maximum 0)) (asks (read aSemaphore 1) nothing_lent))
+    × (seen (table_step (cells (of_maximum 0)) (asks (read a_semaphore 1) nothing_lent))
     ≡ sees (9 ∷ 0 ∷ 0 ∷ 0 ∷ []) nothing_lent (cells (of_maximum 0)))
-    × (seen (table_step (cells (of_maximum 1)) (asks (read aSemaphore 1) nothing_lent))
+    × (seen (table_step (cells (of_maximum 1)) (asks (read a_semaphore 1) nothing_lent))
     ≡ sees (0 ∷ 0 ∷ 1 ∷ 0 ∷ []) nothing_lent (cells (of_maximum 1)))
-    × (seen (table_step (cells full) (asks (create aSemaphore 0 0) nothing_lent)) ≡ sees (1 ∷ 0 ∷ 0 ∷ 0 ∷ []) nothing_lent (cells full))
+    × (seen (table_step (cells full) (asks (create a_semaphore 0 0) nothing_lent)) ≡ sees (1 ∷ 0 ∷ 0 ∷ 0 ∷ []) nothing_lent (cells full))
     -- 5/13: of 512 events the last is waited for, in a list and as an alert; 513 is no handle
     × (seen (table_step (cells full) (asks (wait any (512 ∷ []) 7 0 0 512 never 0) nothing_lent))
     ≡ sees (11 ∷ 0 ∷ 1 ∷ 0 ∷ []) nothing_lent (cells (rows 2 full.objects ((1 ∷ 0 ∷ 7 ∷ 0 ∷ never ∷ 1 ∷ 512 ∷ 512 ∷ []) ∷ []))))

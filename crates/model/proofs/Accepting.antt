@@ -13,7 +13,7 @@ use Rattle.model.specs.Calls.{nothing_lent}
 use Rattle.model.specs.Layout.{table_length, encode, valid_state, same_cells}
 use Rattle.model.specs.Snapshot.{snapshot_text}
 use Rattle.model.specs.Steps.{Outcome, unaltered, on_tables, reference_step, run}
-use Rattle.model.specs.Notions.{Quiet, ◌isIn◌}
+use Rattle.model.specs.Notions.{Quiet, ◌is_in◌}
 use Rattle.model.proofs.Logic.{by_bool, differ, passed, pass}
 use Rattle.model.proofs.Valid.{Valid}
 use Rattle.model.proofs.Validity.{test_valid, valid_test, same_refl, same_eq}
@@ -74,8 +74,8 @@ text_same a b g k e =
       objects = ap (λ (s : State). s.objects) p;
       next = ap (λ (s : State). s.next) p;
       waits = λ w. (
-        λ m. (placed_in b k w).0 (subst (λ (s : State). w isIn s.waits) p ((placed_in a g w).1 m)),
-        λ m. (placed_in a g w).0 (subst (λ (s : State). w isIn s.waits) (sym p) ((placed_in b k w).1 m)),
+        λ m. (placed_in b k w).0 (subst (λ (s : State). w is_in s.waits) p ((placed_in a g w).1 m)),
+        λ m. (placed_in a g w).0 (subst (λ (s : State). w is_in s.waits) (sym p) ((placed_in b k w).1 m)),
       );
     }
 

@@ -14,12 +14,12 @@ use Rattle.model.specs.Basics.{maybe, member, has_repeat, all_of, All}
 use Rattle.model.specs.Waits.{Wait, WaitPlace, free, waiting, State, with_waits, attempt, dequeue, oldest, any_waiting}
 use Rattle.model.specs.Waits.{concerned_by, Woken, none_woken, and_then, serve, try_to_serve, walk_queue, wake_by_walk}
 use Rattle.model.specs.Snapshot.{snapshot_body, snapshot_text}
-use Rattle.model.specs.Calls.{Operation, create, close, resetEvent, read, signal, wait, expire, cancel, snapshot}
+use Rattle.model.specs.Calls.{Operation, create, close, reset_event, read, signal, wait, expire, cancel, snapshot}
 use Rattle.model.specs.Calls.{Lent, nothing_lent, Call, refusals, time_up, new_wait, all_occupied, waits_full, enqueue, Change, admits, ends, end_each}
 use Rattle.model.specs.Calls.{change, WithinWidths}
 use Rattle.model.specs.Layout.{table_length, encode, view, distinct_tickets, valid_tables}
 use Rattle.model.specs.Steps.{Outcome, unaltered, conditions, first_refusal, completed, library_step, table_step, run}
-use Rattle.model.specs.Notions.{◌isIn◌, Quiet}
+use Rattle.model.specs.Notions.{◌is_in◌, Quiet}
 use Rattle.model.specs.Restore.{reply}
 use Rattle.model.specs.Restore.{restore_tables, placed, SameButPlaces}
 use Rattle.model.proofs.Logic.{by_bool, by_option, clash, differ, not_true, and_split}
@@ -37,7 +37,7 @@ use Rattle.model.proofs.AcceptanceExamples.{reached, cancelled_late, cancelled_e
 
 -- the same waits in as many places, and no ticket twice
 record SameQueue (ws vs : List WaitPlace) : Type 0 where
-  same : (w : Wait) → (w isIn ws) ↔ (w isIn vs)
+  same : (w : Wait) → (w is_in ws) ↔ (w is_in vs)
   long : length ws ≡ length vs
   left : distinct_tickets ws ≡ true
   right : distinct_tickets vs ≡ true
@@ -49,7 +49,7 @@ oldest_alike : (f : Wait → Bool) (ws vs : List WaitPlace) → SameQueue ws vs 
 oldest_alike f ws vs q = oldest_same f vs ws (distinct_tickets_lem ws q.left) (turned q).same
 
 -- LEAVING
-in_dequeue : (t : ℕ) (ws : List WaitPlace) (w : Wait) → w isIn ws → (w.ticket ≡ t → ⊥) → w isIn dequeue t ws
+in_dequeue : (t : ℕ) (ws : List WaitPlace) (w : Wait) → w is_in ws → (w.ticket ≡ t → ⊥) → w is_in dequeue t ws
 unfolding dequeue
 in_dequeue t [] w m n = absurd m
 in_dequeue t (free ∷ ws) w m n = in_dequeue t ws w m n
@@ -57,7 +57,7 @@ in_dequeue t (waiting v ∷ ws) w m n = by_bool (eqb v.ticket t)
     (λ e. rw e (⊎_elim (λ (p : w ≡ v). absurd (n (ap (λ (x : Wait). x.ticket) p ∙ eqb-true _ _ e))) (λ k. in_dequeue t ws w k n) m))
     (λ f. rw f (⊎_elim (λ (p : w ≡ v). inl p) (λ k. inr (in_dequeue t ws w k n)) m))
 
-dequeue_within : (t : ℕ) (ws vs : List WaitPlace) → SameQueue ws vs → (w : Wait) → w isIn dequeue t ws → w isIn dequeue t vs
+dequeue_within : (t : ℕ) (ws vs : List WaitPlace) → SameQueue ws vs → (w : Wait) → w is_in dequeue t ws → w is_in dequeue t vs
 dequeue_within t ws vs q w m = let r = dequeue_in t ws w m in in_dequeue t vs w ((q.same w).0 r.0) r.1
 
 dequeue_same : (t : ℕ) (ws vs : List WaitPlace) → SameQueue ws vs → SameQueue (dequeue t ws) (dequeue t vs)
@@ -69,7 +69,7 @@ dequeue_same t ws vs q = record {
 }
 
 -- THE NUMBER OF WAITS, and so whether there is a free place
-count_within : (ws vs : List WaitPlace) → distinct_tickets ws ≡ true → ((w : Wait) → w isIn ws → w isIn vs) → count each ws ≤ count each vs
+count_within : (ws vs : List WaitPlace) → distinct_tickets ws ≡ true → ((w : Wait) → w is_in ws → w is_in vs) → count each ws ≤ count each vs
 unfolding count distinct_tickets
 count_within [] vs d h = omega arith
 count_within (free ∷ ws) vs d h = count_within ws vs d h
@@ -91,13 +91,13 @@ full_same : (ws vs : List WaitPlace) → SameQueue ws vs → waits_full vs ≡ w
 full_same ws vs q = let l = q.long in rw (full_counted vs, count_same ws vs q, ← l) (sym (full_counted ws))
 
 -- QUEUING
-in_enqueue : (w : Wait) (ws : List WaitPlace) (v : Wait) → v isIn ws → v isIn enqueue w ws
+in_enqueue : (w : Wait) (ws : List WaitPlace) (v : Wait) → v is_in ws → v is_in enqueue w ws
 unfolding enqueue
 in_enqueue w [] v m = m
 in_enqueue w (free ∷ ws) v m = inr m
 in_enqueue w (waiting u ∷ ws) v m = ⊎_elim (λ (p : v ≡ u). inl p) (λ k. inr (in_enqueue w ws v k)) m
 
-enqueued : (w : Wait) (ws : List WaitPlace) → waits_full ws ≡ false → w isIn enqueue w ws
+enqueued : (w : Wait) (ws : List WaitPlace) → waits_full ws ≡ false → w is_in enqueue w ws
 unfolding enqueue waits_full
 enqueued w [] e = clash refl e
 enqueued w (free ∷ ws) e = inl refl
@@ -109,12 +109,12 @@ enqueue_full w [] e = refl
 enqueue_full w (free ∷ ws) e = clash e refl
 enqueue_full w (waiting u ∷ ws) e = ap (λ (vs : List WaitPlace). waiting u ∷ vs) (enqueue_full w ws e)
 
-enqueue_within : (w : Wait) (ws vs : List WaitPlace) → SameQueue ws vs → (v : Wait) → v isIn enqueue w ws → v isIn enqueue w vs
+enqueue_within : (w : Wait) (ws vs : List WaitPlace) → SameQueue ws vs → (v : Wait) → v is_in enqueue w ws → v is_in enqueue w vs
 enqueue_within w ws vs q v m = by_bool (waits_full ws)
-    (λ t. in_enqueue w vs v ((q.same v).0 (subst (λ (us : List WaitPlace). v isIn us) (enqueue_full w ws t) m)))
+    (λ t. in_enqueue w vs v ((q.same v).0 (subst (λ (us : List WaitPlace). v is_in us) (enqueue_full w ws t) m)))
     (λ f. ⊎_elim (λ (p : v ≡ w). rw p (enqueued w vs (full_same ws vs q ∙ f))) (λ k. in_enqueue w vs v ((q.same v).0 k)) (enqueue_in w ws v m))
 
-enqueue_same : (w : Wait) (ws vs : List WaitPlace) → SameQueue ws vs → ((v : Wait) → v isIn ws → v.ticket ≡ w.ticket → ⊥) → SameQueue (enqueue w ws) (enqueue w vs)
+enqueue_same : (w : Wait) (ws vs : List WaitPlace) → SameQueue ws vs → ((v : Wait) → v is_in ws → v.ticket ≡ w.ticket → ⊥) → SameQueue (enqueue w ws) (enqueue w vs)
 enqueue_same w ws vs q h = record {
   same = λ v. (enqueue_within w ws vs q v, enqueue_within w vs ws (turned q) v);
   long = length_enqueue w ws ∙ q.long ∙ sym (length_enqueue w vs);
@@ -180,7 +180,7 @@ refusals_same : (op : Operation) (s : State) (vs : List WaitPlace) → SameQueue
 unfolding refusals
 refusals_same (create k x y) s vs q = refl
 refusals_same (close h) s vs q = rw (oldest_alike (concerned_by (h ∷ [])) s.waits vs q)
-refusals_same (resetEvent h) s vs q = refl
+refusals_same (reset_event h) s vs q = refl
 refusals_same (read k h) s vs q = refl
 refusals_same (signal how h) s vs q = refl
 refusals_same (wait mode hs o f p a timeout time) s vs q = rw (full_same s.waits vs q)
@@ -205,14 +205,14 @@ record AlikeChange (x y : Change) : Type 0 where
   is : y ≡ change_with x waits
   queue : SameQueue x.state.waits waits
 
-admits_alike : (w : Wait) (time : ℕ) (s : State) (vs : List WaitPlace) → SameQueue s.waits vs → ((v : Wait) → v isIn s.waits → v.ticket ≡ w.ticket → ⊥)
+admits_alike : (w : Wait) (time : ℕ) (s : State) (vs : List WaitPlace) → SameQueue s.waits vs → ((v : Wait) → v is_in s.waits → v.ticket ≡ w.ticket → ⊥)
     → AlikeChange (admits w time s) (admits w time (with_waits s vs))
 unfolding admits
 admits_alike w time s vs q h = by_option (attempt s.objects w)
     (λ e. by_bool (time_up w.timeout time) (λ t. rw (e, t) (record { waits = vs; is = refl; queue = q })) (λ f. rw (e, f) (record { waits = enqueue w vs; is = refl; queue = enqueue_same w s.waits vs q h })))
     (λ g e. rw e (record { waits = vs; is = refl; queue = q }))
 
-fresh : (s : State) → Valid s → (v : Wait) → v isIn s.waits → v.ticket ≡ s.next → ⊥
+fresh : (s : State) → Valid s → (v : Wait) → v is_in s.waits → v.ticket ≡ s.next → ⊥
 fresh s g v m e = let l : v.ticket < s.next = (g.tickets v m).1 in omega arith
 
 expire_alike : (clock time : ℕ) (s : State) (vs : List WaitPlace) → SameQueue s.waits vs → AlikeChange (change (expire clock time) s) (change (expire clock time) (with_waits s vs))
@@ -224,7 +224,7 @@ change_alike : (op : Operation) (s : State) (vs : List WaitPlace) → Valid s �
 unfolding change
 change_alike (create k x y) s vs g q = record { waits = vs; is = refl; queue = q }
 change_alike (close h) s vs g q = record { waits = vs; is = refl; queue = q }
-change_alike (resetEvent h) s vs g q = record { waits = vs; is = refl; queue = q }
+change_alike (reset_event h) s vs g q = record { waits = vs; is = refl; queue = q }
 change_alike (read k h) s vs g q = record { waits = vs; is = refl; queue = q }
 change_alike (signal how h) s vs g q = record { waits = vs; is = refl; queue = q }
 change_alike (wait mode hs o f p a timeout time) s vs g q = admits_alike (new_wait mode hs o f a timeout s.next) time s vs q (fresh s g)

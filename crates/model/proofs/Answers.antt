@@ -9,10 +9,10 @@ use native.Mathlib.Omega.{arith}
 use lib.ListN.{length}
 use lib.Dec.{eqb, ltb}
 use borrow.Author.Tests.{ltb-false, le-ltb, eqb-true, eqb-false}
-use Rattle.model.specs.Basics.{done, ownerDead, number, any_of, member, All}
-use Rattle.model.specs.Calls.{end_each, least, list_too_short, all_occupied, repeats, Kind, aSemaphore, aMutex}
-use Rattle.model.specs.Calls.{anEvent, Signal, post, unlock, kill, setEvent}
-use Rattle.model.specs.Calls.{pulseEvent, Operation, create, close, resetEvent, read, signal, wait, expire}
+use Rattle.model.specs.Basics.{done, owner_dead, number, any_of, member, All}
+use Rattle.model.specs.Calls.{end_each, least, list_too_short, all_occupied, repeats, Kind, a_semaphore, a_mutex}
+use Rattle.model.specs.Calls.{an_event, Signal, post, unlock, kill, set_event}
+use Rattle.model.specs.Calls.{pulse_event, Operation, create, close, reset_event, read, signal, wait, expire}
 use Rattle.model.specs.Calls.{cancel, snapshot, Call, Refusal, Rule, rule, wrong_kind, on_semaphore, on_mutex}
 use Rattle.model.specs.Calls.{on_event, read_rule, signal_rule, time_up, new_wait, refusals, Change, admits, change}
 use Rattle.model.specs.Objects.{Object, empty, semaphore, mutex, event, is_event}
@@ -57,24 +57,24 @@ unfolding member
 signal_numbered (post add) x = on_semaphore_lem (λ r. Numbered r.refusals) (refl, tt) x _ (λ c m. (refl, tt))
 signal_numbered (unlock o) x = on_mutex_lem (λ r. Numbered r.refusals) (refl, tt) x _ (λ h c a. (refl, (refl, tt)))
 signal_numbered (kill o) x = on_mutex_lem (λ r. Numbered r.refusals) (refl, tt) x _ (λ h c a. (refl, (refl, tt)))
-signal_numbered setEvent x = on_event_lem (λ r. Numbered r.refusals) (refl, tt) x _ (λ s m. tt)
-signal_numbered pulseEvent x = on_event_lem (λ r. Numbered r.refusals) (refl, tt) x _ (λ s m. tt)
+signal_numbered set_event x = on_event_lem (λ r. Numbered r.refusals) (refl, tt) x _ (λ s m. tt)
+signal_numbered pulse_event x = on_event_lem (λ r. Numbered r.refusals) (refl, tt) x _ (λ s m. tt)
 
-read_mutex : (P : Rule → Type 0) (x : Object) (o c : ℕ) (a : Bool) → P (rule [] ownerDead 0 0 x) → P (rule [] done o c x) → P (cond a (rule [] ownerDead 0 0 x) (rule [] done o c x))
+read_mutex : (P : Rule → Type 0) (x : Object) (o c : ℕ) (a : Bool) → P (rule [] owner_dead 0 0 x) → P (rule [] done o c x) → P (cond a (rule [] owner_dead 0 0 x) (rule [] done o c x))
 read_mutex P x o c true p q = p
 read_mutex P x o c false p q = q
 
 read_numbered : (k : Kind) (x : Object) → Numbered (read_rule k x).refusals
 unfolding member
-read_numbered aSemaphore x = on_semaphore_lem (λ r. Numbered r.refusals) (refl, tt) x _ (λ c m. tt)
-read_numbered aMutex x = on_mutex_lem (λ r. Numbered r.refusals) (refl, tt) x _ (λ o c a. read_mutex (λ r. Numbered r.refusals) x o c a tt tt)
-read_numbered anEvent x = on_event_lem (λ r. Numbered r.refusals) (refl, tt) x _ (λ s m. tt)
+read_numbered a_semaphore x = on_semaphore_lem (λ r. Numbered r.refusals) (refl, tt) x _ (λ c m. tt)
+read_numbered a_mutex x = on_mutex_lem (λ r. Numbered r.refusals) (refl, tt) x _ (λ o c a. read_mutex (λ r. Numbered r.refusals) x o c a tt tt)
+read_numbered an_event x = on_event_lem (λ r. Numbered r.refusals) (refl, tt) x _ (λ s m. tt)
 
 refusals_numbered : (op : Operation) (s : State) → Numbered (refusals op s)
 unfolding refusals member
 refusals_numbered (create k x y) s = (refl, (refl, tt))
 refusals_numbered (close h) s = (refl, (refl, tt))
-refusals_numbered (resetEvent h) s = on_event_lem (λ r. Numbered r.refusals) (refl, tt) (object_at s.objects h) _ (λ v m. tt)
+refusals_numbered (reset_event h) s = on_event_lem (λ r. Numbered r.refusals) (refl, tt) (object_at s.objects h) _ (λ v m. tt)
 refusals_numbered (read k h) s = read_numbered k (object_at s.objects h)
 refusals_numbered (signal how h) s = signal_numbered how (object_at s.objects h)
 refusals_numbered (wait mode hs o f p a t now) s = (refl, (refl, (refl, tt)))
@@ -147,14 +147,14 @@ unfolding member
 signal_plain (post add) x = on_semaphore_lem (λ r. Plain r.answer) refl x _ (λ c m. refl)
 signal_plain (unlock o) x = on_mutex_lem (λ r. Plain r.answer) refl x _ (λ h c a. refl)
 signal_plain (kill o) x = on_mutex_lem (λ r. Plain r.answer) refl x _ (λ h c a. refl)
-signal_plain setEvent x = on_event_lem (λ r. Plain r.answer) refl x _ (λ s m. refl)
-signal_plain pulseEvent x = on_event_lem (λ r. Plain r.answer) refl x _ (λ s m. refl)
+signal_plain set_event x = on_event_lem (λ r. Plain r.answer) refl x _ (λ s m. refl)
+signal_plain pulse_event x = on_event_lem (λ r. Plain r.answer) refl x _ (λ s m. refl)
 
 read_plain : (k : Kind) (x : Object) → Plain (read_rule k x).answer
 unfolding member
-read_plain aSemaphore x = on_semaphore_lem (λ r. Plain r.answer) refl x _ (λ c m. refl)
-read_plain aMutex x = on_mutex_lem (λ r. Plain r.answer) refl x _ (λ o c a. read_mutex (λ r. Plain r.answer) x o c a refl refl)
-read_plain anEvent x = on_event_lem (λ r. Plain r.answer) refl x _ (λ s m. refl)
+read_plain a_semaphore x = on_semaphore_lem (λ r. Plain r.answer) refl x _ (λ c m. refl)
+read_plain a_mutex x = on_mutex_lem (λ r. Plain r.answer) refl x _ (λ o c a. read_mutex (λ r. Plain r.answer) x o c a refl refl)
+read_plain an_event x = on_event_lem (λ r. Plain r.answer) refl x _ (λ s m. refl)
 
 admits_fine : (w : Wait) (time : ℕ) (s : State) → Fine s (admits w time s)
 unfolding admits member
@@ -173,7 +173,7 @@ pub change_fine : (op : Operation) (s : State) → Fine s (change op s)
 unfolding change member
 change_fine (create k x y) s = plain_fine s _ refl refl
 change_fine (close h) s = plain_fine s _ refl refl
-change_fine (resetEvent h) s = plain_fine s _ (on_event_lem (λ r. Plain r.answer) refl (object_at s.objects h) _ (λ v m. refl)) refl
+change_fine (reset_event h) s = plain_fine s _ (on_event_lem (λ r. Plain r.answer) refl (object_at s.objects h) _ (λ v m. refl)) refl
 change_fine (read k h) s = plain_fine s _ (read_plain k (object_at s.objects h)) refl
 change_fine (signal how h) s = plain_fine s _ (signal_plain how (object_at s.objects h)) refl
 change_fine (wait mode hs o f p a t now) s = admits_fine (new_wait mode hs o f a t s.next) now s
@@ -214,13 +214,13 @@ step_spends s c = perform_case wake_by_walk s c (λ o. o.held.next ≡ cond (eqb
     eleven n e = refused_not n 11 refl e
 
 -- A WRONG OBJECT is refused with 1
-wrong_semaphore : (x : Object) (f : ℕ → ℕ → Rule) → of_kind aSemaphore x ≡ false → on_semaphore x f ≡ wrong_kind
+wrong_semaphore : (x : Object) (f : ℕ → ℕ → Rule) → of_kind a_semaphore x ≡ false → on_semaphore x f ≡ wrong_kind
 wrong_semaphore empty f e = refl
 wrong_semaphore (semaphore c m) f e = clash refl e
 wrong_semaphore (mutex o c a) f e = refl
 wrong_semaphore (event s m) f e = refl
 
-wrong_mutex : (x : Object) (f : ℕ → ℕ → Bool → Rule) → of_kind aMutex x ≡ false → on_mutex x f ≡ wrong_kind
+wrong_mutex : (x : Object) (f : ℕ → ℕ → Bool → Rule) → of_kind a_mutex x ≡ false → on_mutex x f ≡ wrong_kind
 wrong_mutex empty f e = refl
 wrong_mutex (semaphore c m) f e = refl
 wrong_mutex (mutex o c a) f e = clash refl e
@@ -233,16 +233,16 @@ wrong_event (mutex o c a) f e = refl
 wrong_event (event s m) f e = clash refl e
 
 wrong_read : (k : Kind) (x : Object) → of_kind k x ≡ false → read_rule k x ≡ wrong_kind
-wrong_read aSemaphore x e = wrong_semaphore x _ e
-wrong_read aMutex x e = wrong_mutex x _ e
-wrong_read anEvent x e = wrong_event x _ e
+wrong_read a_semaphore x e = wrong_semaphore x _ e
+wrong_read a_mutex x e = wrong_mutex x _ e
+wrong_read an_event x e = wrong_event x _ e
 
 wrong_signal : (how : Signal) (x : Object) → of_kind (kind_for how) x ≡ false → signal_rule how x ≡ wrong_kind
 wrong_signal (post add) x e = wrong_semaphore x _ e
 wrong_signal (unlock o) x e = wrong_mutex x _ e
 wrong_signal (kill o) x e = wrong_mutex x _ e
-wrong_signal setEvent x e = wrong_event x _ e
-wrong_signal pulseEvent x e = wrong_event x _ e
+wrong_signal set_event x e = wrong_event x _ e
+wrong_signal pulse_event x e = wrong_event x _ e
 
 wrong_wait : (a b c d e f g h : Bool) → (c || g) ≡ true → any_of (a ∷ b ∷ c ∷ d ∷ e ∷ f ∷ g ∷ h ∷ []) ≡ true
 unfolding any_of
@@ -258,7 +258,7 @@ wrong_first : (op : Operation) (s : State) → wrong_object op s.objects ≡ tru
 unfolding refusals first_refusal
 wrong_first (create k x y) s e = clash e refl
 wrong_first (close h) s e = rw e
-wrong_first (resetEvent h) s e = wrong_rule _ (wrong_event (object_at s.objects h) _ (not_true _ e))
+wrong_first (reset_event h) s e = wrong_rule _ (wrong_event (object_at s.objects h) _ (not_true _ e))
 wrong_first (read k h) s e = wrong_rule _ (wrong_read k (object_at s.objects h) (not_true _ e))
 wrong_first (signal how h) s e = wrong_rule _ (wrong_signal how (object_at s.objects h) (not_true _ e))
 wrong_first (wait mode hs o f p a t now) s e = rw (wrong_wait (list_too_short mode hs) (ltb max_listed (length hs)) (not (all_occupied s.objects hs)) (eqb o 0) (ltb 1 f) (not (eqb p 0)) (not (eqb a 0 || is_event (object_at s.objects a))) (repeats mode (a ∷ hs)) e)
@@ -279,8 +279,8 @@ step_wrong s c l w = let a : ltb (length c.lent.wake) (least c.operation).0 ≡ 
     rw (a, b, wrong_first c.operation s w)
 
 -- on a state nobody answers 9
-pub never_corrupt : (wakeUp : List ℕ → State → Woken) (s : State) (c : Call) → (perform wakeUp s c).answer ≡ 9 → ⊥
-never_corrupt wakeUp s c = perform_case wakeUp s c (λ o. o.answer ≡ 9 → ⊥)
+pub never_corrupt : (wake_up : List ℕ → State → Woken) (s : State) (c : Call) → (perform wake_up s c).answer ≡ 9 → ⊥
+never_corrupt wake_up s c = perform_case wake_up s c (λ o. o.answer ≡ 9 → ⊥)
     (λ n e. not_nine (among (λ n. eqb n 9 ≡ false) call_numbers (refl, (refl, (refl, (refl, (refl, (refl, (refl, tt))))))) n (call_numbered c s n e)))
     (λ a. not_nine (among (λ n. eqb n 9 ≡ false) other_numbers (refl, (refl, (refl, (refl, (refl, tt))))) _ (change_fine c.operation s).number))
 

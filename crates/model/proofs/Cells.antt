@@ -15,7 +15,7 @@ use Rattle.model.specs.Basics.{bit, tabulate, joined, overwrite}
 use Rattle.model.specs.Layout.{object_size, header_size, wait_size, waits_base, table_length, object_cells, mode_cell, wait_cells, encode, object_of, in_object, in_wait, wait_of, view, distinct_tickets}
 use Rattle.model.specs.Sizes.{object_places, wait_places, max_listed}
 use Rattle.model.specs.Objects.{Object, empty, semaphore, mutex, event}
-use Rattle.model.specs.Notions.{◌isIn◌}
+use Rattle.model.specs.Notions.{◌is_in◌}
 use Rattle.model.specs.Waits.{Mode, any, all, Wait, WaitPlace, free, waiting, State, with_objects, with_waits, object_at, put_object, dequeue, any_waiting}
 use Rattle.model.proofs.Logic.{by_bool, differ, and_split, eqb_same, passed}
 use Rattle.model.proofs.Valid.{Valid, waiting_none}
@@ -186,7 +186,7 @@ wait_of_cells (waiting w) k f h =
 pub record Shaped (s : State) : Type 0 where
   pub places : length s.objects ≡ object_places
   pub slots : length s.waits ≡ wait_places
-  pub waits : (w : Wait) → w isIn s.waits → (0 < w.ticket) × (length w.list ≤ max_listed)
+  pub waits : (w : Wait) → w is_in s.waits → (0 < w.ticket) × (length w.list ≤ max_listed)
 
 pub valid_shaped : (s : State) → Valid s → Shaped s
 valid_shaped s g = record {
@@ -198,7 +198,7 @@ valid_shaped s g = record {
 shaped_ok : (s : State) → Shaped s → (i : ℕ) → PlaceOk (get_or s.waits i free)
 shaped_ok s g i = go s.waits i g.waits
   where
-    go : (ws : List WaitPlace) (i : ℕ) → ((w : Wait) → w isIn ws → (0 < w.ticket) × (length w.list ≤ max_listed)) → PlaceOk (get_or ws i free)
+    go : (ws : List WaitPlace) (i : ℕ) → ((w : Wait) → w is_in ws → (0 < w.ticket) × (length w.list ≤ max_listed)) → PlaceOk (get_or ws i free)
     go [] i h = tt
     go (free ∷ ws) zero h = tt
     go (waiting w ∷ ws) zero h = h w (inl refl)
@@ -223,14 +223,14 @@ pub view_encode : (s : State) → Valid s → view (encode s) ≡ s
 view_encode s g = view_shaped s (valid_shaped s g)
 
 -- the wait at place p leaves: its place is free, and no other changes
-pub at_in : (ws : List WaitPlace) (p : ℕ) (w : Wait) → get_or ws p free ≡ waiting w → w isIn ws
+pub at_in : (ws : List WaitPlace) (p : ℕ) (w : Wait) → get_or ws p free ≡ waiting w → w is_in ws
 at_in [] p w e = absurd (differ (cc))
 at_in (free ∷ ws) zero w e = differ (cc)
 at_in (waiting v ∷ ws) zero w e = inl (let q : w ≡ v = cc in q)
 at_in (free ∷ ws) (suc p) w e = at_in ws p w e
 at_in (waiting v ∷ ws) (suc p) w e = inr (at_in ws p w e)
 
-dequeue_none : (t : ℕ) (ws : List WaitPlace) → ((v : Wait) → v isIn ws → v.ticket ≡ t → ⊥) → dequeue t ws ≡ ws
+dequeue_none : (t : ℕ) (ws : List WaitPlace) → ((v : Wait) → v is_in ws → v.ticket ≡ t → ⊥) → dequeue t ws ≡ ws
 unfolding dequeue
 dequeue_none t [] h = refl
 dequeue_none t (free ∷ ws) h = ap (λ (l : List WaitPlace). free ∷ l) (dequeue_none t ws h)
@@ -246,7 +246,7 @@ dequeue_at (waiting v ∷ ws) zero w a e = let q : v ≡ w = cc in let r = and_s
     rw (← q, eqb_same v.ticket, k)
 dequeue_at (free ∷ ws) (suc p) w a e = ap (λ (l : List WaitPlace). free ∷ l) (dequeue_at ws p w a e)
 dequeue_at (waiting v ∷ ws) (suc p) w a e = let r = and_split (not (any_waiting (λ u. eqb u.ticket v.ticket) ws)) (distinct_tickets ws) a in
-    let m : w isIn ws = at_in ws p w e in
+    let m : w is_in ws = at_in ws p w e in
     let n : eqb v.ticket w.ticket ≡ false = by_bool (eqb v.ticket w.ticket)
     (λ t. absurd (eqb-false w.ticket v.ticket (waiting_none (λ u. eqb u.ticket v.ticket) ws (not-true _ r.0) w m) (sym (eqb-true v.ticket w.ticket t)))) (λ f. f) in
     rw (n, dequeue_at ws p w r.1 e)
@@ -288,11 +288,11 @@ write_wait s i x p h =
     rw e (sym (sets_behind (wait_cells x) (A ++ B) s.next (length A + wait_size * i) ∙ ap (λ (q : List ℕ). s.next ∷ q) (sets_right A B (wait_cells x) (wait_size * i)
     ∙ ap (λ (q : List ℕ). A ++ q) (sym (joined_set wait_cells wait_size wait_cells_size s.waits i x h)))))
 
-pub in_at : (ws : List WaitPlace) (w : Wait) → w isIn ws → (p : ℕ) × (p < length ws) × (get_or ws p free ≡ waiting w)
+pub in_at : (ws : List WaitPlace) (w : Wait) → w is_in ws → (p : ℕ) × (p < length ws) × (get_or ws p free ≡ waiting w)
 in_at [] w m = absurd m
 in_at (free ∷ ws) w m = let r = in_at ws w m in let l : r.0 < length ws = r.1 in (suc r.0, omega arith, r.2)
 in_at (waiting v ∷ ws) w m = ⊎_elim (λ (e : w ≡ v). (0, omega arith, ap waiting (sym e)))
-    (λ (k : w isIn ws). let r = in_at ws w k in let l : r.0 < length ws = r.1 in (suc r.0, omega arith, r.2)) m
+    (λ (k : w is_in ws). let r = in_at ws w k in let l : r.0 < length ws = r.1 in (suc r.0, omega arith, r.2)) m
 
 pub by_place {ℓ} : {P : Type ℓ} (x : WaitPlace) → (x ≡ free → P) → ((w : Wait) → x ≡ waiting w → P) → P
 by_place free f h = f refl

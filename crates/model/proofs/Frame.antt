@@ -10,10 +10,10 @@ use lib.ListN.{length, get_or}
 use lib.Dec.{eqb, ltb}
 use borrow.Author.Tests.{eqb-true, eqb-false, not-true, ne_eqb}
 use Rattle.model.specs.Basics.{member, All}
-use Rattle.model.specs.Calls.{Signal, post, unlock, kill, setEvent, pulseEvent, Operation, create, close, resetEvent, read, signal, wait, expire, cancel, snapshot, Call, clears_after, new_object, new_handle, list_too_short, wait_faults, time_up, new_wait, enqueue, refusals, Change, admits, end_each, change}
+use Rattle.model.specs.Calls.{Signal, post, unlock, kill, set_event, pulse_event, Operation, create, close, reset_event, read, signal, wait, expire, cancel, snapshot, Call, clears_after, new_object, new_handle, list_too_short, wait_faults, time_up, new_wait, enqueue, refusals, Change, admits, end_each, change}
 use Rattle.model.specs.Objects.{Object, empty, signaled, acquired}
 use Rattle.model.specs.Steps.{library_step}
-use Rattle.model.specs.Notions.{◌isIn◌, taken_listed, taken_by, touched}
+use Rattle.model.specs.Notions.{◌is_in◌, taken_listed, taken_by, touched}
 use Rattle.model.specs.Waits.{Mode, any, all, Wait, WaitPlace, free, waiting, State, with_waits, object_at, put_object, Grant, all_signaled, look, attempt, acquire_each, any_abandoned, served_answer, dequeue, oldest, concerned_by, Report, serve, try_to_serve, walk_queue, wake_by_walk}
 use Rattle.model.proofs.History.{end_each_objects}
 use Rattle.model.proofs.Waking.{after, walk_keeps, walk_nothing}
@@ -68,13 +68,13 @@ not_timed_out os t = by_bool (any_abandoned os t.handles) (λ e. rw e (λ (z : �
 
 -- no wait of the queue that is reported served took this object
 abbrev pub Untaken : ℕ → List WaitPlace → List Report → Type 0
-Untaken h ws rs = All (λ r. (w : Wait) → w isIn ws → w.ticket ≡ r.ticket → (r.answer ≡ 5 → ⊥) → member h (taken_by w r.index) ≡ false) rs
+Untaken h ws rs = All (λ r. (w : Wait) → w is_in ws → w.ticket ≡ r.ticket → (r.answer ≡ 5 → ⊥) → member h (taken_by w r.index) ≡ false) rs
 
 -- every queued wait has a list
 abbrev Listed : State → Type 0
-Listed s = (w : Wait) → w isIn s.waits → list_too_short w.mode w.list ≡ false
+Listed s = (w : Wait) → w is_in s.waits → list_too_short w.mode w.list ≡ false
 
-untaken_less : (h : ℕ) (ws vs : List WaitPlace) (rs : List Report) → ((w : Wait) → w isIn vs → w isIn ws) → Untaken h ws rs → Untaken h vs rs
+untaken_less : (h : ℕ) (ws vs : List WaitPlace) (rs : List Report) → ((w : Wait) → w is_in vs → w is_in ws) → Untaken h ws rs → Untaken h vs rs
 untaken_less h ws vs rs within u = all_map _ _ (λ r k w m. k w (within w m)) rs u
 
 -- THE WALK: objects
@@ -83,7 +83,7 @@ walk_objects : (n : ℕ) (changed : List ℕ) (last : ℕ) (s : State) → Liste
 unfolding walk_queue try_to_serve serve
 walk_objects zero changed last s l h = λ u. refl
 walk_objects (suc n) changed last s l h = by_option (oldest (λ w. ltb last w.ticket) s.waits) (λ e. rw e (λ u. refl))
-    (λ w e. let m : w isIn s.waits = (oldest_some (λ w. ltb last w.ticket) s.waits w e).stands in by_bool (concerned_by changed w)
+    (λ w e. let m : w is_in s.waits = (oldest_some (λ w. ltb last w.ticket) s.waits w e).stands in by_bool (concerned_by changed w)
     (λ y. by_option (attempt s.objects w) (λ a. rw (e, y, a) (walk_objects n changed w.ticket s l h))
     (λ t a. rw (e, y, a) (λ u.
     walk_objects n changed w.ticket (after w t s) (λ v k. l v (dequeue_in _ _ v k).0) h
@@ -151,7 +151,7 @@ change_same : (op : Operation) (s : State) (h : ℕ) → Accepted (refusals op s
 unfolding refusals change
 change_same (create k x y) s h a n = put_same s h (new_handle s) (new_object k x y) n
 change_same (close k) s h a n = put_same s h k empty n
-change_same (resetEvent k) s h a n = put_same s h k _ n
+change_same (reset_event k) s h a n = put_same s h k _ n
 change_same (read k j) s h a n = refl
 change_same (signal how k) s h a n = put_same s h k _ n
 change_same (wait mode hs o f p al t now) s h a n = admits_same mode hs o f p al t now s h (fault_free (wait_faults mode hs o f p al s.objects) a.0 0) n
@@ -164,8 +164,8 @@ clears_signal : (how : Signal) (k h : ℕ) (j : State) → member h (k ∷ []) �
 clears_signal (post add) k h j n = refl
 clears_signal (unlock o) k h j n = refl
 clears_signal (kill o) k h j n = refl
-clears_signal setEvent k h j n = refl
-clears_signal pulseEvent k h j n = put_same j h k _ n
+clears_signal set_event k h j n = refl
+clears_signal pulse_event k h j n = put_same j h k _ n
 
 pub clears_none : (w : Wait) (time : ℕ) (s : State) → (admits w time s).clears ≡ 0
 unfolding admits
@@ -175,7 +175,7 @@ clears_same : (op : Operation) (s : State) (h : ℕ) (j : State) → member h (t
 unfolding change
 clears_same (create k x y) s h j n = refl
 clears_same (close k) s h j n = refl
-clears_same (resetEvent k) s h j n = refl
+clears_same (reset_event k) s h j n = refl
 clears_same (read k i) s h j n = refl
 clears_same (signal how k) s h j n = clears_signal how k h j n
 clears_same (wait mode hs o f p al t now) s h j n = rw (clears_none (new_wait mode hs o f al t s.next) now s)
@@ -192,7 +192,7 @@ pub change_queue : (op : Operation) (s : State) → ((change op s).changed ≡ [
 unfolding change
 change_queue (create k x y) s = inl refl
 change_queue (close h) s = inl refl
-change_queue (resetEvent h) s = inl refl
+change_queue (reset_event h) s = inl refl
 change_queue (read k h) s = inl refl
 change_queue (signal how h) s = inr (refl, refl)
 change_queue (wait mode hs o f p al t now) s = inl (admits_quietly (new_wait mode hs o f al t s.next) now s)
@@ -216,8 +216,8 @@ step_objects s c h g = perform_case wake_by_walk s c
     woken : (d : Change) → (d.changed ≡ []) ⊎ ((d.state.waits ≡ s.waits) × (d.reports ≡ [])) → Untaken h s.waits (d.reports ++ (wake_by_walk d.changed d.state).reports)
         → object_at (wake_by_walk d.changed d.state).state.objects h ≡ object_at d.state.objects h
     woken d (inl e) u = rw (e, walk_nothing (length d.state.waits) 0 d.state)
-    woken d (inr q) u = let e = q.0 in walk_objects (length d.state.waits) d.changed 0 d.state (λ w m. listed_valid s g w (subst (λ (ws : List WaitPlace). w isIn ws) e m)) h
-        (untaken_less h s.waits d.state.waits (wake_by_walk d.changed d.state).reports (λ w m. subst (λ (ws : List WaitPlace). w isIn ws) e m) (all_right _ d.reports (wake_by_walk d.changed d.state).reports u))
+    woken d (inr q) u = let e = q.0 in walk_objects (length d.state.waits) d.changed 0 d.state (λ w m. listed_valid s g w (subst (λ (ws : List WaitPlace). w is_in ws) e m)) h
+        (untaken_less h s.waits d.state.waits (wake_by_walk d.changed d.state).reports (λ w m. subst (λ (ws : List WaitPlace). w is_in ws) e m) (all_right _ d.reports (wake_by_walk d.changed d.state).reports u))
 
 -- THE CHANGE: waits
 enqueue_stays : (v : Wait) (ws : List WaitPlace) (p : ℕ) (w : Wait) → get_or ws p free ≡ waiting w → get_or (enqueue v ws) p free ≡ waiting w
@@ -273,7 +273,7 @@ change_stays : (op : Operation) (s : State) (p : ℕ) (w : Wait) → (op ≡ can
 unfolding change
 change_stays (create k x y) s p w n e u = e
 change_stays (close h) s p w n e u = e
-change_stays (resetEvent h) s p w n e u = e
+change_stays (reset_event h) s p w n e u = e
 change_stays (read k h) s p w n e u = e
 change_stays (signal how h) s p w n e u = e
 change_stays (wait mode hs o f q al t now) s p w n e u = admits_stays (new_wait mode hs o f al t s.next) now s p w e
@@ -285,7 +285,7 @@ change_free : (op : Operation) (s : State) (p : ℕ) → get_or s.waits p free �
 unfolding change
 change_free (create k x y) s p e = inl e
 change_free (close h) s p e = inl e
-change_free (resetEvent h) s p e = inl e
+change_free (reset_event h) s p e = inl e
 change_free (read k h) s p e = inl e
 change_free (signal how h) s p e = inl e
 change_free (wait mode hs o f q al t now) s p e = admits_free (new_wait mode hs o f al t s.next) now s p e

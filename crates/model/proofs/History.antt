@@ -9,12 +9,12 @@ use lib.ListN.{length, replicate, length-replicate}
 use lib.Dec.{eqb, lit<}
 use borrow.Author.Tests.{eqb-true, eqb-false}
 use Rattle.model.specs.Basics.{member}
-use Rattle.model.specs.Calls.{Operation, create, close, resetEvent, read, signal, wait, expire, cancel, snapshot, Call, new_object, new_handle, wait_faults, time_up, new_wait, refusals, Change, admits, end_each, change, WithinWidths}
+use Rattle.model.specs.Calls.{Operation, create, close, reset_event, read, signal, wait, expire, cancel, snapshot, Call, new_object, new_handle, wait_faults, time_up, new_wait, refusals, Change, admits, end_each, change, WithinWidths}
 use Rattle.model.specs.Layout.{valid_object, distinct_tickets}
 use Rattle.model.specs.Sizes.{object_places, wait_places}
 use Rattle.model.specs.Objects.{Object, empty, occupied, cleared}
 use Rattle.model.specs.Steps.{conditions, first_refusal, library_step, reference_step}
-use Rattle.model.specs.Notions.{◌isIn◌, Quiet}
+use Rattle.model.specs.Notions.{◌is_in◌, Quiet}
 use Rattle.model.specs.Waits.{Wait, free, State, initial, with_objects, with_waits, object_at, put_at, put_object, attempt, servable, dequeue, oldest, named_by, wake_by_walk, wake_by_search}
 use Rattle.model.proofs.Waking.{Unaffected, search_quiet, walking_is_searching}
 use Rattle.model.proofs.Logic.{by_bool, by_option, clash, or_split, fault_free}
@@ -50,7 +50,7 @@ create_quiet s x g q w m = let r = new_place s in let v = r.0 in let z = r.1 in
     (λ t. clash (let y : (eqb (new_handle s) 0 || occupied (object_at s.objects (new_handle s))) ≡ true = named_there s.objects w (g.waits w m) (new_handle s) t in rw (z, v) at y) refl) (λ f. f)) (q w m)
 
 -- the queue shrinks
-within_quiet : (s s' : State) → s'.objects ≡ s.objects → ((w : Wait) → w isIn s'.waits → w isIn s.waits) → Quiet s → Quiet s'
+within_quiet : (s s' : State) → s'.objects ≡ s.objects → ((w : Wait) → w is_in s'.waits → w is_in s.waits) → Quiet s → Quiet s'
 within_quiet s s' same within q w m = rw same (q w (within w m))
 
 pub end_each_objects : (n : ℕ) (f : Wait → Bool) (s : State) → (end_each n f s).state.objects ≡ s.objects
@@ -58,7 +58,7 @@ unfolding end_each
 end_each_objects zero f s = refl
 end_each_objects (suc n) f s = by_option (oldest f s.waits) (λ e. rw e) (λ w e. rw e (end_each_objects n f (with_waits s (dequeue w.ticket s.waits))))
 
-end_each_within : (n : ℕ) (f : Wait → Bool) (s : State) (w : Wait) → w isIn (end_each n f s).state.waits → w isIn s.waits
+end_each_within : (n : ℕ) (f : Wait → Bool) (s : State) (w : Wait) → w is_in (end_each n f s).state.waits → w is_in s.waits
 unfolding end_each
 end_each_within zero f s w = λ m. m
 end_each_within (suc n) f s w = by_option (oldest f s.waits) (λ e. rw e (λ m. m))
@@ -77,7 +77,7 @@ pub change_unaffected : (op : Operation) (s : State) → Accepted (refusals op s
 unfolding refusals change admits
 change_unaffected (create k x y) s a t = λ w m n. create_quiet s (new_object k x y) t.valid t.quiet w m
 change_unaffected (close h) s a t = λ w m n. less_quiet s (put_at s.objects h empty) (put_less s.objects h empty (λ p e. clash e refl)) t.quiet w m
-change_unaffected (resetEvent h) s a t = λ w m n. less_quiet s _ (put_less s.objects h _ (λ p. reset_less (object_at s.objects h) p a)) t.quiet w m
+change_unaffected (reset_event h) s a t = λ w m n. less_quiet s _ (put_less s.objects h _ (λ p. reset_less (object_at s.objects h) p a)) t.quiet w m
 change_unaffected (read k h) s a t = λ w m n. t.quiet w m
 change_unaffected (signal how h) s a t = put_unaffected s h _ t.quiet
 change_unaffected (wait mode hs o f p al ti now) s a t = λ w m n. admits_quiet (new_wait mode hs o f al ti s.next) now s t.quiet
@@ -116,7 +116,7 @@ step_settled s c fit t = record {
 }
 
 -- newly made
-nothing_waiting : (n : ℕ) (w : Wait) → w isIn replicate n free → ⊥
+nothing_waiting : (n : ℕ) (w : Wait) → w is_in replicate n free → ⊥
 nothing_waiting zero w m = m
 nothing_waiting (suc n) w m = nothing_waiting n w m
 

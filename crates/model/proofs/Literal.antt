@@ -16,7 +16,7 @@ use Rattle.model.specs.Layout.{object_size, header_size, wait_size, waits_base, 
 use Rattle.model.specs.Sizes.{object_places, wait_places, max_listed, word32, word64}
 use Rattle.model.specs.Objects.{Object, empty, semaphore, mutex, event, occupied, is_event, abandoned, never_signaled}
 use Rattle.model.specs.ValidCells.{Occupied, OfEvent, ValidObject, ValidWait, ValidCells}
-use Rattle.model.specs.Notions.{◌isIn◌}
+use Rattle.model.specs.Notions.{◌is_in◌}
 use Rattle.model.specs.Waits.{Mode, any, all, Wait, WaitPlace, free, waiting, State, object_at, any_waiting}
 use Rattle.model.proofs.Logic.{by_bool, clash, differ, and_split, or_left, or_right, or_split, one_or_more, eqb_same, member_at, at_member, passed, pass}
 use Rattle.model.proofs.Validity.{tables_valid, encoded_valid}
@@ -263,7 +263,7 @@ module _ (s : State) (g : Valid s) where
 
   wait_lines_lem : (p : ℕ) (w : Wait) → p < wait_places → get_or s.waits p free ≡ waiting w → ValidWait (encode s) p
   wait_lines_lem p w l e =
-      let h : Holds s p w = holds s p w g l e in let m : w isIn s.waits = at_in s.waits p w e in
+      let h : Holds s p w = holds s p w g l e in let m : w is_in s.waits = at_in s.waits p w e in
       let (t0, (t1, (t2, (t3, (t4, (t5, (t6, (t7, (t8, t9))))))))) = passed _ (g.waits w m) in
       let o : w.owner ≡ 0 → ⊥ = eqb-false w.owner 0 (not-true _ t0) in
       let n : length w.list ≤ max_listed = h.fits in
@@ -432,7 +432,7 @@ module _ (t : List ℕ) (c : ValidCells t) where
         held = record { full = view_places t; inside = (let q = view_slots t in omega arith); here = e; fits = (let b : in_wait t p 5 ≤ max_listed = v.listed.1 in omega arith) };
       })
 
-  shown_in : (w : Wait) → w isIn (view t).waits → (p : ℕ) × ShownAt p w
+  shown_in : (w : Wait) → w is_in (view t).waits → (p : ℕ) × ShownAt p w
   shown_in w m = let r = in_at (view t).waits w m in let l : r.0 < length (view t).waits = r.1 in let q = view_slots t in (r.0, shown_at r.0 w (omega arith) r.2)
 
   -- a cell of a wait, in t and in the encoding

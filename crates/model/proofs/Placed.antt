@@ -15,7 +15,7 @@ use Rattle.model.specs.Basics.{All}
 use Rattle.model.specs.Waits.{Wait, WaitPlace, free, waiting, State, lower_ticket, oldest, any_waiting, servable}
 use Rattle.model.specs.Snapshot.{queue_from, snapshot_body, snapshot_text}
 use Rattle.model.specs.Layout.{distinct_tickets}
-use Rattle.model.specs.Notions.{◌isIn◌, Quiet}
+use Rattle.model.specs.Notions.{◌is_in◌, Quiet}
 use Rattle.model.proofs.Logic.{by_bool, by_option, clash, not_true}
 use Rattle.model.proofs.Queue.{oldest_none, oldest_some, oldest_is, oldest_is_none, Oldest, Distinct, count, count_length, count_zero, count_lt}
 use Rattle.model.proofs.Valid.{Valid, none_waiting, waiting_none, distinct_tickets_lem}
@@ -51,7 +51,7 @@ pub among_all : (P : Wait → Type 0) (q : List Wait) → All P q → (w : Wait)
 among_all P [] h w m = absurd m
 among_all P (v ∷ q) h w m = ⊎_elim (λ (p : w ≡ v). subst (λ x. P x) (sym p) h.0) (λ k. among_all P q h.1 w k) m
 
-queue_all : (n last : ℕ) (ws : List WaitPlace) → Distinct ws → count (above last) ws ≤ n → (w : Wait) → w isIn ws → above last w ≡ true → w among queue_from n last ws
+queue_all : (n last : ℕ) (ws : List WaitPlace) → Distinct ws → count (above last) ws ≤ n → (w : Wait) → w is_in ws → above last w ≡ true → w among queue_from n last ws
 unfolding queue_from
 queue_all zero last ws d c w m t = clash t (count_zero (above last) ws c w m)
 queue_all (suc n) last ws d c w m t = by_option (oldest (above last) ws) (λ e. clash t (oldest_none (above last) ws e w m))
@@ -63,12 +63,12 @@ queue_all (suc n) last ws d c w m t = by_option (oldest (above last) ws) (λ e. 
     (λ f. let a : w.ticket ≤ v.ticket = ltb-false _ _ f in inl (d w v m o.stands (le_antisymm a (o.lowest w m t))))))
 
 -- the places of a list of waits
-pub places_among : (q : List Wait) (k : ℕ) (w : Wait) → w isIn (map waiting q ++ replicate k free) → w among q
+pub places_among : (q : List Wait) (k : ℕ) (w : Wait) → w is_in (map waiting q ++ replicate k free) → w among q
 places_among [] zero w m = m
 places_among [] (suc k) w m = places_among [] k w m
-places_among (v ∷ q) k w m = ⊎_elim (λ p. inl p) (λ (j : w isIn (map waiting q ++ replicate k free)). inr (places_among q k w j)) m
+places_among (v ∷ q) k w m = ⊎_elim (λ p. inl p) (λ (j : w is_in (map waiting q ++ replicate k free)). inr (places_among q k w j)) m
 
-among_places : (q : List Wait) (k : ℕ) (w : Wait) → w among q → w isIn (map waiting q ++ replicate k free)
+among_places : (q : List Wait) (k : ℕ) (w : Wait) → w among q → w is_in (map waiting q ++ replicate k free)
 among_places [] k w m = absurd m
 among_places (v ∷ q) k w m = ⊎_elim (λ p. inl p) (λ (j : w among q). inr (among_places q k w j)) m
 
@@ -82,12 +82,12 @@ distinct_places last (w ∷ q) k r =
     rw e (distinct_places w.ticket q k r.1)
 
 -- and their queue is that list
-in_append : (a b : List WaitPlace) (w : Wait) → w isIn (a ++ b) → (w isIn a) ⊎ (w isIn b)
+in_append : (a b : List WaitPlace) (w : Wait) → w is_in (a ++ b) → (w is_in a) ⊎ (w is_in b)
 in_append [] b w m = inr m
 in_append (free ∷ a) b w m = in_append a b w m
-in_append (waiting v ∷ a) b w m = ⊎_elim (λ p. inl (inl p)) (λ (k : w isIn (a ++ b)). ⊎_elim (λ j. inl (inr j)) (λ j. inr j) (in_append a b w k)) m
+in_append (waiting v ∷ a) b w m = ⊎_elim (λ p. inl (inl p)) (λ (k : w is_in (a ++ b)). ⊎_elim (λ j. inl (inr j)) (λ j. inr j) (in_append a b w k)) m
 
-oldest_skip : (f : Wait → Bool) (a b : List WaitPlace) → ((w : Wait) → w isIn a → f w ≡ false) → oldest f (a ++ b) ≡ oldest f b
+oldest_skip : (f : Wait → Bool) (a b : List WaitPlace) → ((w : Wait) → w is_in a → f w ≡ false) → oldest f (a ++ b) ≡ oldest f b
 unfolding oldest
 oldest_skip f [] b h = refl
 oldest_skip f (free ∷ a) b h = oldest_skip f a b h
@@ -97,11 +97,11 @@ lower_first : (w : Wait) (o : Option Wait) → ((v : Wait) → o ≡ some v → 
 lower_first w none h = refl
 lower_first w (some v) h = rw (le-ltb v.ticket w.ticket (h v refl))
 
-oldest_first : (f : Wait → Bool) (w : Wait) (b : List WaitPlace) → f w ≡ true → ((v : Wait) → v isIn b → w.ticket ≤ v.ticket) → oldest f (waiting w ∷ b) ≡ some w
+oldest_first : (f : Wait → Bool) (w : Wait) (b : List WaitPlace) → f w ≡ true → ((v : Wait) → v is_in b → w.ticket ≤ v.ticket) → oldest f (waiting w ∷ b) ≡ some w
 unfolding oldest
 oldest_first f w b t h = rw t (lower_first w (oldest f b) (λ v e. h v (oldest_some f b v e).stands))
 
-pub queue_again : (n last : ℕ) (front : List WaitPlace) (q : List Wait) (k : ℕ) → ((v : Wait) → v isIn front → v.ticket ≤ last) → Rising last q → length q ≤ n
+pub queue_again : (n last : ℕ) (front : List WaitPlace) (q : List Wait) (k : ℕ) → ((v : Wait) → v is_in front → v.ticket ≤ last) → Rising last q → length q ≤ n
     → queue_from n last (front ++ (map waiting q ++ replicate k free)) ≡ q
 unfolding queue_from
 queue_again zero last front [] k h r l = refl
@@ -126,9 +126,9 @@ module _ (s : State) (g : Valid s) where
   slots = let n = wait_places - length (queue s) in let a = length-append (map waiting (queue s)) (replicate n free) in let b = length-map (queue s) waiting in let c = length-replicate n free in
       let h = short in omega arith
 
-  pub placed_in : (w : Wait) → w isIn (placed s).waits ↔ w isIn s.waits
+  pub placed_in : (w : Wait) → w is_in (placed s).waits ↔ w is_in s.waits
   placed_in w = (
-    λ m. among_all (λ v. v isIn s.waits) (queue s) (queue_within (length s.waits) 0 s.waits) w (places_among (queue s) (wait_places - length (queue s)) w m),
+    λ m. among_all (λ v. v is_in s.waits) (queue s) (queue_within (length s.waits) 0 s.waits) w (places_among (queue s) (wait_places - length (queue s)) w m),
     λ m. among_places (queue s) (wait_places - length (queue s)) w (queue_all (length s.waits) 0 s.waits (distinct_tickets_lem s.waits g.distinct) (count_length (above 0) s.waits) w m (lt-ltb 0 w.ticket (g.tickets w m).0)),
   )
 
@@ -158,13 +158,13 @@ module _ (s : State) (g : Valid s) where
   placed_same = record { objects = refl; next = refl; waits = λ w. ((placed_in w).1, (placed_in w).0) }
 
 -- the same waits, whatever their places, are queued alike
-pub oldest_same : (f : Wait → Bool) (a b : List WaitPlace) → Distinct b → ((w : Wait) → w isIn a ↔ w isIn b) → oldest f a ≡ oldest f b
+pub oldest_same : (f : Wait → Bool) (a b : List WaitPlace) → Distinct b → ((w : Wait) → w is_in a ↔ w is_in b) → oldest f a ≡ oldest f b
 oldest_same f a b d h = by_option (oldest f a)
     (λ e. e ∙ sym (oldest_is_none f b (λ w m. oldest_none f a e w ((h w).1 m))))
     (λ w e. let o : Oldest f a w = oldest_some f a w e in
     e ∙ sym (oldest_is f b w d (record { stands = (h w).0 o.stands; passes = o.passes; lowest = λ v m t. o.lowest v ((h v).1 m) t })))
 
-pub queue_same : (n last : ℕ) (a b : List WaitPlace) → Distinct b → ((w : Wait) → w isIn a ↔ w isIn b) → queue_from n last a ≡ queue_from n last b
+pub queue_same : (n last : ℕ) (a b : List WaitPlace) → Distinct b → ((w : Wait) → w is_in a ↔ w is_in b) → queue_from n last a ≡ queue_from n last b
 unfolding queue_from
 queue_same zero last a b d h = refl
 queue_same (suc n) last a b d h = by_option (oldest (above last) b)

@@ -13,7 +13,7 @@ use Rattle.model.specs.Waits.{Wait, State, with_waits, object_at, put_at, put_ob
 use Rattle.model.specs.Calls.{Kind, create, cancel, Lent, Call, asks, lowest_empty, new_handle, new_object, change}
 use Rattle.model.specs.Calls.{refusals}
 use Rattle.model.specs.Steps.{library_step}
-use Rattle.model.specs.Notions.{◌isIn◌}
+use Rattle.model.specs.Notions.{◌is_in◌}
 use Rattle.model.proofs.Queue.{dequeue_in}
 use Rattle.model.proofs.Waking.{walk_nothing}
 use Rattle.model.proofs.Rules.{perform_case, lowest_place}
@@ -44,10 +44,10 @@ step_creates k x y l s = let c : Call = asks (create k x y) l in
     (lowest_filled s.objects (new_object k x y) (ltb-false (length s.objects) (new_handle s) a.1.1.0)))
 
 pub step_cancels : (k : ℕ) (l : Lent) (s : State) → let r = library_step s (asks (cancel k) l) in
-    r.answer ≡ 6 → (v : Wait) → v isIn r.held.waits → v.ticket ≡ k → ⊥
+    r.answer ≡ 6 → (v : Wait) → v is_in r.held.waits → v.ticket ≡ k → ⊥
 unfolding library_step change refusals member
 step_cancels k l s = let c : Call = asks (cancel k) l in
-    perform_case wake_by_walk s c (λ r. r.answer ≡ 6 → (v : Wait) → v isIn r.held.waits → v.ticket ≡ k → ⊥)
+    perform_case wake_by_walk s c (λ r. r.answer ≡ 6 → (v : Wait) → v is_in r.held.waits → v.ticket ≡ k → ⊥)
     (λ n e z. absurd (refusal_never c s n 6 refl e z))
     (λ a z. rw (walk_nothing (length (dequeue k s.waits)) 0 (with_waits s (dequeue k s.waits)))
     (λ v m. (dequeue_in k s.waits v m).1))

@@ -12,7 +12,7 @@ use lib.Dec.{eqb, ltb}
 use borrow.Author.Tests.{ltb-true, ltb-false, eqb-true, eqb-false}
 use Rattle.model.specs.Basics.{member}
 use Rattle.model.specs.Calls.{enqueue}
-use Rattle.model.specs.Notions.{◌isIn◌}
+use Rattle.model.specs.Notions.{◌is_in◌}
 use Rattle.model.specs.Waits.{Wait, WaitPlace, free, waiting, dequeue, lower_ticket, oldest, named_by, concerned_by}
 use Rattle.model.proofs.Logic.{by_bool, by_option, clash, differ, or_split}
 
@@ -31,7 +31,7 @@ lower_some w (some u) = by_bool (ltb u.ticket w.ticket)
     (λ f. record { it = w; is = rw f; from = inl refl; below = le_refl _; under = λ x e. let q : u ≡ x = cc in let h : w.ticket ≤ u.ticket = ltb-false _ _ f in rw (← q) h })
 
 -- the oldest by its properties
-pub oldest_none : (f : Wait → Bool) (ws : List WaitPlace) → oldest f ws ≡ none → (w : Wait) → w isIn ws → f w ≡ false
+pub oldest_none : (f : Wait → Bool) (ws : List WaitPlace) → oldest f ws ≡ none → (w : Wait) → w is_in ws → f w ≡ false
 unfolding oldest
 oldest_none f [] e w m = absurd m
 oldest_none f (free ∷ ws) e w m = oldest_none f ws e w m
@@ -40,9 +40,9 @@ oldest_none f (waiting v ∷ ws) e w m = by_bool (f v)
     (λ n. let q : oldest f ws ≡ none = rw n at e in ⊎_elim (λ (p : w ≡ v). rw p n) (λ m'. oldest_none f ws q w m') m)
 
 pub record Oldest (f : Wait → Bool) (ws : List WaitPlace) (w : Wait) : Type 0 where
-  pub stands : w isIn ws
+  pub stands : w is_in ws
   pub passes : f w ≡ true
-  pub lowest : (v : Wait) → v isIn ws → f v ≡ true → w.ticket ≤ v.ticket
+  pub lowest : (v : Wait) → v is_in ws → f v ≡ true → w.ticket ≤ v.ticket
 
 oldest_lower : (f : Wait → Bool) (ws : List WaitPlace) (v w : Wait) → ((x : Wait) → oldest f ws ≡ some x → Oldest f ws x)
     → f v ≡ true → lower_ticket v (oldest f ws) ≡ some w → Oldest f (waiting v ∷ ws) w
@@ -76,7 +76,7 @@ oldest_some f (waiting v ∷ ws) w e = by_bool (f v)
 
 -- differ two waits of the queue have one ticket
 abbrev pub Distinct : List WaitPlace → Type 0
-Distinct ws = (v w : Wait) → v isIn ws → w isIn ws → v.ticket ≡ w.ticket → v ≡ w
+Distinct ws = (v w : Wait) → v is_in ws → w is_in ws → v.ticket ≡ w.ticket → v ≡ w
 
 pub oldest_is : (f : Wait → Bool) (ws : List WaitPlace) (w : Wait) → Distinct ws → Oldest f ws w → oldest f ws ≡ some w
 oldest_is f ws w d p = by_option (oldest f ws)
@@ -85,19 +85,19 @@ oldest_is f ws w d p = by_option (oldest f ws)
     let t : v.ticket ≡ w.ticket = le_antisymm (q.lowest w p.stands p.passes) (p.lowest v q.stands q.passes) in
     let i : v ≡ w = d v w q.stands p.stands t in cc)
 
-pub oldest_is_none : (f : Wait → Bool) (ws : List WaitPlace) → ((w : Wait) → w isIn ws → f w ≡ false) → oldest f ws ≡ none
+pub oldest_is_none : (f : Wait → Bool) (ws : List WaitPlace) → ((w : Wait) → w is_in ws → f w ≡ false) → oldest f ws ≡ none
 oldest_is_none f ws h = by_option (oldest f ws) (λ e. e) (λ w e. let q = oldest_some f ws w e in clash q.passes (h w q.stands))
 
 -- leaving
-pub dequeue_in : (t : ℕ) (ws : List WaitPlace) (w : Wait) → w isIn dequeue t ws → (w isIn ws) × (w.ticket ≡ t → ⊥)
+pub dequeue_in : (t : ℕ) (ws : List WaitPlace) (w : Wait) → w is_in dequeue t ws → (w is_in ws) × (w.ticket ≡ t → ⊥)
 unfolding dequeue
 dequeue_in t [] w m = absurd m
 dequeue_in t (free ∷ ws) w m = dequeue_in t ws w m
 dequeue_in t (waiting v ∷ ws) w m = by_bool (eqb v.ticket t)
-    (λ e. let m' : w isIn dequeue t ws = subst (λ (b : Bool). w isIn (cond b free (waiting v) ∷ dequeue t ws)) e m in let r = dequeue_in t ws w m' in (inr r.0, r.1))
-    (λ n. let m' : (w ≡ v) ⊎ (w isIn dequeue t ws) = subst (λ (b : Bool). w isIn (cond b free (waiting v) ∷ dequeue t ws)) n m in
+    (λ e. let m' : w is_in dequeue t ws = subst (λ (b : Bool). w is_in (cond b free (waiting v) ∷ dequeue t ws)) e m in let r = dequeue_in t ws w m' in (inr r.0, r.1))
+    (λ n. let m' : (w ≡ v) ⊎ (w is_in dequeue t ws) = subst (λ (b : Bool). w is_in (cond b free (waiting v) ∷ dequeue t ws)) n m in
     ⊎_elim (λ (p : w ≡ v). (inl p, λ q. eqb-false _ _ n (ap (λ (x : Wait). x.ticket) (sym p) ∙ q)))
-    (λ (k : w isIn dequeue t ws). let r = dequeue_in t ws w k in (inr r.0, r.1)) m')
+    (λ (k : w is_in dequeue t ws). let r = dequeue_in t ws w k in (inr r.0, r.1)) m')
 
 -- counting the waits that pass a test
 unfoldable pub count : (Wait → Bool) → List WaitPlace → ℕ
@@ -111,7 +111,7 @@ count_length f [] = omega arith
 count_length f (free ∷ ws) = let ih = count_length f ws in omega arith
 count_length f (waiting w ∷ ws) = let ih = count_length f ws in by_bool (f w) (λ t. rw t (omega arith)) (λ n. rw n (omega arith))
 
-pub count_zero : (f : Wait → Bool) (ws : List WaitPlace) → count f ws ≤ 0 → (w : Wait) → w isIn ws → f w ≡ false
+pub count_zero : (f : Wait → Bool) (ws : List WaitPlace) → count f ws ≤ 0 → (w : Wait) → w is_in ws → f w ≡ false
 unfolding count
 count_zero f [] h w m = absurd m
 count_zero f (free ∷ ws) h w m = count_zero f ws h w m
@@ -119,7 +119,7 @@ count_zero f (waiting v ∷ ws) h w m = by_bool (f v)
     (λ t. let k : suc (count f ws) ≤ 0 = rw t at h in absurd (let z : ⊥ = omega arith in z))
     (λ n. let k : count f ws ≤ 0 = rw n at h in ⊎_elim (λ (p : w ≡ v). rw p n) (λ m'. count_zero f ws k w m') m)
 
-pub count_le : (f g : Wait → Bool) (ws : List WaitPlace) → ((w : Wait) → w isIn ws → f w ≡ true → g w ≡ true) → count f ws ≤ count g ws
+pub count_le : (f g : Wait → Bool) (ws : List WaitPlace) → ((w : Wait) → w is_in ws → f w ≡ true → g w ≡ true) → count f ws ≤ count g ws
 unfolding count
 count_le f g [] h = omega arith
 count_le f g (free ∷ ws) h = count_le f g ws h
@@ -127,8 +127,8 @@ count_le f g (waiting v ∷ ws) h = let ih = count_le f g ws (λ w m t. h w (inr
     (λ t. let gt = h v (inl refl) t in rw (t, gt) (omega arith))
     (λ n. by_bool (g v) (λ t. rw (n, t) (omega arith)) (λ k. rw (n, k) ih))
 
-pub count_lt : (f g : Wait → Bool) (ws : List WaitPlace) → ((w : Wait) → w isIn ws → f w ≡ true → g w ≡ true)
-    → (v : Wait) → v isIn ws → f v ≡ false → g v ≡ true → count f ws < count g ws
+pub count_lt : (f g : Wait → Bool) (ws : List WaitPlace) → ((w : Wait) → w is_in ws → f w ≡ true → g w ≡ true)
+    → (v : Wait) → v is_in ws → f v ≡ false → g v ≡ true → count f ws < count g ws
 unfolding count
 count_lt f g [] h v m n t = absurd m
 count_lt f g (free ∷ ws) h v m n t = count_lt f g ws h v m n t
@@ -148,11 +148,11 @@ count_dequeue f t (waiting v ∷ ws) = let ih = count_dequeue f t ws in by_bool 
     (λ n. rw n (by_bool (f v) (λ s. rw s (ap suc ih)) (λ s. rw s ih)))
 
 -- queuing
-pub enqueue_in : (w : Wait) (ws : List WaitPlace) (v : Wait) → v isIn enqueue w ws → (v ≡ w) ⊎ (v isIn ws)
+pub enqueue_in : (w : Wait) (ws : List WaitPlace) (v : Wait) → v is_in enqueue w ws → (v ≡ w) ⊎ (v is_in ws)
 unfolding enqueue
 enqueue_in w [] v m = absurd m
 enqueue_in w (free ∷ ws) v m = m
-enqueue_in w (waiting u ∷ ws) v m = ⊎_elim (λ (p : v ≡ u). inr (inl p)) (λ (k : v isIn enqueue w ws). ⊎_elim (λ p. inl p) (λ j. inr (inr j)) (enqueue_in w ws v k)) m
+enqueue_in w (waiting u ∷ ws) v m = ⊎_elim (λ (p : v ≡ u). inr (inl p)) (λ (k : v is_in enqueue w ws). ⊎_elim (λ p. inl p) (λ j. inr (inr j)) (enqueue_in w ws v k)) m
 
 -- a wait that is not concerned names none of the changed objects
 pub unconcerned : (cs : List ℕ) (w : Wait) → concerned_by cs w ≡ false → (k : ℕ) → member k (named_by w) ≡ true → member k cs ≡ false

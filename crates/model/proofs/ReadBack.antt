@@ -15,7 +15,7 @@ use Rattle.model.specs.Waits.{Mode, any, all, Wait, WaitPlace, State, object_at,
 use Rattle.model.specs.Calls.{all_occupied}
 use Rattle.model.specs.Snapshot.{ascii, line, object_text, objects_text, object_count, mode_text, clock_text, wait_text, queue_from, snapshot_body, byte_sum, snapshot_text}
 use Rattle.model.specs.Layout.{valid_object, valid_wait}
-use Rattle.model.specs.Notions.{◌isIn◌}
+use Rattle.model.specs.Notions.{◌is_in◌}
 use Rattle.model.proofs.Logic.{by_bool, by_option, clash, and_split, passed}
 use Rattle.model.proofs.Queue.{oldest_some}
 use Rattle.model.proofs.Valid.{Valid, event_occupied}
@@ -133,7 +133,7 @@ reads_wait os w p g z k = let (t0, (t1, (t2, (t3, (t4, (t5, (t6, (t7, t8))))))))
     (reads_times (number_line "obj=" 1 object_places) (line "obj=") w.list (reads_list os w.list p t6)))))))))
 
 -- THE QUEUE: its waits stand in the places, and are no more than those
-pub queue_within : (n last : ℕ) (ws : List WaitPlace) → All (λ w. w isIn ws) (queue_from n last ws)
+pub queue_within : (n last : ℕ) (ws : List WaitPlace) → All (λ w. w is_in ws) (queue_from n last ws)
 unfolding queue_from
 queue_within zero last ws = tt
 queue_within (suc n) last ws = by_option (oldest (λ w. ltb last w.ticket) ws) (λ e. rw e tt)

@@ -13,7 +13,7 @@ use borrow.Author.Tests.{leb-true, eqb-true}
 use Rattle.model.specs.Sizes.{object_places, wait_places, max_listed, never}
 use Rattle.model.specs.Basics.{maybe, bit, joined, All}
 use Rattle.model.specs.Objects.{Object, empty, semaphore, mutex, event, occupied}
-use Rattle.model.specs.Calls.{Kind, aSemaphore, aMutex, anEvent}
+use Rattle.model.specs.Calls.{Kind, a_semaphore, a_mutex, an_event}
 use Rattle.model.specs.Snapshot.{ascii, line, object_text, mode_text, clock_text, wait_text}
 use Rattle.model.proofs.Logic.{by_bool, by_option, differ, and_split}
 use Rattle.model.specs.Reading.{Read, good, bad, Reader, ◌>>=◌, give, times, after, leading, number_line, word_line, flag_line, read_values, read_object, read_wait, Lines, read_snapshot}
@@ -114,9 +114,9 @@ pub record Listable (x : ℕ × Object) : Type 0 where
   pub occupied : occupied x.1 ≡ true
 
 kind_text : Kind → List ℕ
-kind_text aSemaphore = ascii "kind=sem\n"
-kind_text aMutex = ascii "kind=mutex\n"
-kind_text anEvent = ascii "kind=event\n"
+kind_text a_semaphore = ascii "kind=sem\n"
+kind_text a_mutex = ascii "kind=mutex\n"
+kind_text an_event = ascii "kind=event\n"
 
 abbrev values_text : Object → List ℕ
 values_text empty = []
@@ -130,10 +130,10 @@ record OfKind (k : Kind) (x : Object) : Type 0 where
 
 values_exact : (k : Kind) → Exact (read_values k) values_text (OfKind k)
 unfolding read_values object_text kind_text
-values_exact aSemaphore = from_start (after_then [] _ _ (number_exact "count=" 0 _) (λ c p. after_then _ _ _ (number_exact "max=" 0 _) (λ m q. after_give _ _ refl (record { there = refl; text = λ h. refl }))))
-values_exact aMutex = from_start (after_then [] _ _ (number_exact "owner=" 0 _) (λ o p. after_then _ _ _ (number_exact "count=" 0 _) (λ c q. after_then _ _ _ (flag_exact "abandoned=")
+values_exact a_semaphore = from_start (after_then [] _ _ (number_exact "count=" 0 _) (λ c p. after_then _ _ _ (number_exact "max=" 0 _) (λ m q. after_give _ _ refl (record { there = refl; text = λ h. refl }))))
+values_exact a_mutex = from_start (after_then [] _ _ (number_exact "owner=" 0 _) (λ o p. after_then _ _ _ (number_exact "count=" 0 _) (λ c q. after_then _ _ _ (flag_exact "abandoned=")
     (λ a r. after_give _ _ (simp append_assoc) (record { there = refl; text = λ h. refl })))))
-values_exact anEvent = from_start (after_then [] _ _ (flag_exact "signaled=") (λ c p. after_then _ _ _ (flag_exact "manual=") (λ m q. after_give _ _ refl (record { there = refl; text = λ h. refl }))))
+values_exact an_event = from_start (after_then [] _ _ (flag_exact "signaled=") (λ c p. after_then _ _ _ (flag_exact "manual=") (λ m q. after_give _ _ refl (record { there = refl; text = λ h. refl }))))
 
 pub object_exact : Exact read_object entry_text Listable
 unfolding read_object kind_text
@@ -212,9 +212,9 @@ within_flag key = within_then _ _ (number_exact key 0 1) (within_number key 0 1)
 
 within_values : (k : Kind) → Within (read_values k)
 unfolding read_values
-within_values aSemaphore = within_then _ _ (number_exact "count=" 0 _) (within_number _ _ _) (λ c. within_then _ _ (number_exact "max=" 0 _) (within_number _ _ _) (λ m. within_give _))
-within_values aMutex = within_then _ _ (number_exact "owner=" 0 _) (within_number _ _ _) (λ c. within_then _ _ (number_exact "count=" 0 _) (within_number _ _ _) (λ m. within_then _ _ (flag_exact "abandoned=") (within_flag _) (λ a. within_give _)))
-within_values anEvent = within_then _ _ (flag_exact "signaled=") (within_flag _) (λ c. within_then _ _ (flag_exact "manual=") (within_flag _) (λ m. within_give _))
+within_values a_semaphore = within_then _ _ (number_exact "count=" 0 _) (within_number _ _ _) (λ c. within_then _ _ (number_exact "max=" 0 _) (within_number _ _ _) (λ m. within_give _))
+within_values a_mutex = within_then _ _ (number_exact "owner=" 0 _) (within_number _ _ _) (λ c. within_then _ _ (number_exact "count=" 0 _) (within_number _ _ _) (λ m. within_then _ _ (flag_exact "abandoned=") (within_flag _) (λ a. within_give _)))
+within_values an_event = within_then _ _ (flag_exact "signaled=") (within_flag _) (λ c. within_then _ _ (flag_exact "manual=") (within_flag _) (λ m. within_give _))
 
 within_object : Within read_object
 unfolding read_object kind_text

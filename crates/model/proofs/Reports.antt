@@ -17,12 +17,12 @@ use Rattle.model.specs.Objects.{cleared}
 use Rattle.model.specs.Waits.{all, Wait, WaitPlace, State, with_waits, object_at, put_at, Grant, all_signaled, look}
 use Rattle.model.specs.Waits.{attempt, acquire_each, any_abandoned, served_answer, dequeue, oldest, concerned_by}
 use Rattle.model.specs.Waits.{Report, serve, try_to_serve, walk_queue, wake_by_walk}
-use Rattle.model.specs.Calls.{signal_rule, pulseEvent}
-use Rattle.model.specs.Calls.{Lent, asks, Operation, create, close, resetEvent, read, signal, wait, expire}
+use Rattle.model.specs.Calls.{signal_rule, pulse_event}
+use Rattle.model.specs.Calls.{Lent, asks, Operation, create, close, reset_event, read, signal, wait, expire}
 use Rattle.model.specs.Calls.{cancel, snapshot, Call, least, refusals, time_up, new_wait, list_too_short, repeats}
 use Rattle.model.specs.Calls.{wait_faults, end_each, Change, change, admits}
 use Rattle.model.specs.Steps.{Outcome, conditions, first_refusal, records, library_step}
-use Rattle.model.specs.Notions.{◌isIn◌, refusal_numbers, Rising, Served, Ended, OneByOne, Took, ServedNumber}
+use Rattle.model.specs.Notions.{◌is_in◌, refusal_numbers, Rising, Served, Ended, OneByOne, Took, ServedNumber}
 use Rattle.model.specs.Notions.{AllOrNone}
 use Rattle.model.proofs.Logic.{by_bool, by_option, clash, differ, or_left, or_right, or_split, eqb_same, passed}
 use Rattle.model.proofs.Logic.{fault_free}
@@ -68,7 +68,7 @@ walk_rises (suc n) changed last s = by_option (oldest (λ w. ltb last w.ticket) 
 
 -- every wait that passes the test has a ticket above `last`
 abbrev Above : ℕ → (Wait → Bool) → List WaitPlace → Type 0
-Above last f ws = (w : Wait) → w isIn ws → f w ≡ true → last < w.ticket
+Above last f ws = (w : Wait) → w is_in ws → f w ≡ true → last < w.ticket
 
 end_each_rises : (n : ℕ) (f : Wait → Bool) (last : ℕ) (s : State) → Above last f s.waits → Rising last (end_each n f s).reports
 unfolding end_each
@@ -98,19 +98,19 @@ rising_once last (x ∷ rs) r = by_bool (member x.ticket (tickets_of rs))
 
 -- WAITS OF THE QUEUE BEFORE, AND OF NONE AFTER
 abbrev pub Gone : List WaitPlace → ℕ → Type 0
-Gone ws t = (v : Wait) → v isIn ws → v.ticket ≡ t → ⊥
+Gone ws t = (v : Wait) → v is_in ws → v.ticket ≡ t → ⊥
 
 abbrev pub Was : List WaitPlace → ℕ → Type 0
-Was ws t = (w : Wait) × (w isIn ws) × (w.ticket ≡ t)
+Was ws t = (w : Wait) × (w is_in ws) × (w.ticket ≡ t)
 
 -- each reported ticket was in the one queue, and is in the other no more
 abbrev pub Left : List WaitPlace → List WaitPlace → List Report → Type 0
 Left before end rs = All (λ r. Was before r.ticket × Gone end r.ticket) rs
 
-was_within : (ws vs : List WaitPlace) (end : List WaitPlace) (rs : List Report) → ((w : Wait) → w isIn vs → w isIn ws) → Left vs end rs → Left ws end rs
+was_within : (ws vs : List WaitPlace) (end : List WaitPlace) (rs : List Report) → ((w : Wait) → w is_in vs → w is_in ws) → Left vs end rs → Left ws end rs
 was_within ws vs end rs within a = all_map _ _ (λ r k. let (w, m, e) = k.0 in ((w, within w m, e), k.1)) rs a
 
-dequeue_within : (t : ℕ) (ws : List WaitPlace) (w : Wait) → w isIn dequeue t ws → w isIn ws
+dequeue_within : (t : ℕ) (ws : List WaitPlace) (w : Wait) → w is_in dequeue t ws → w is_in ws
 dequeue_within t ws w m = (dequeue_in t ws w m).0
 
 dequeue_gone : (t : ℕ) (ws : List WaitPlace) → Gone (dequeue t ws) t
@@ -123,7 +123,7 @@ walk_left : (n : ℕ) (changed : List ℕ) (last : ℕ) (s : State) → Left s.w
 unfolding walk_queue try_to_serve serve
 walk_left zero changed last s = tt
 walk_left (suc n) changed last s = by_option (oldest (λ w. ltb last w.ticket) s.waits) (λ e. rw e tt)
-    (λ w e. let m : w isIn s.waits = (oldest_some (λ w. ltb last w.ticket) s.waits w e).stands in by_bool (concerned_by changed w)
+    (λ w e. let m : w is_in s.waits = (oldest_some (λ w. ltb last w.ticket) s.waits w e).stands in by_bool (concerned_by changed w)
     (λ y. by_option (attempt s.objects w) (λ a. rw (e, y, a) (walk_left n changed w.ticket s))
     (λ t a. let u : State = after w t s in rw (e, y, a) (
       ((w, m, refl), walk_gone w.ticket n changed w.ticket u (dequeue_gone w.ticket s.waits)),
@@ -151,8 +151,8 @@ abbrev pub Told : Wait → Report → List Object → List Object → Type 0
 Told w r os next = Served w r os next ⊎ Ended w r os next
 
 -- within a larger queue, and by what follows for its waits
-pub one_by_one : (P Q : Wait → Report → List Object → List Object → Type 0) (vs ws : List WaitPlace) → ((w : Wait) → w isIn vs → w isIn ws)
-    → ((w : Wait) (r : Report) (os next : List Object) → w isIn ws → P w r os next → Q w r os next)
+pub one_by_one : (P Q : Wait → Report → List Object → List Object → Type 0) (vs ws : List WaitPlace) → ((w : Wait) → w is_in vs → w is_in ws)
+    → ((w : Wait) (r : Report) (os next : List Object) → w is_in ws → P w r os next → Q w r os next)
     → (rs : List Report) (os end : List Object) → OneByOne P vs rs os end → OneByOne Q ws rs os end
 one_by_one P Q vs ws within f [] os end a = a
 one_by_one P Q vs ws within f (r ∷ rs) os end a = let (w, m, e, next, p, q) = a in
@@ -162,7 +162,7 @@ walk_told : (n : ℕ) (changed : List ℕ) (last : ℕ) (s : State) → OneByOne
 unfolding walk_queue try_to_serve serve
 walk_told zero changed last s = refl
 walk_told (suc n) changed last s = by_option (oldest (λ w. ltb last w.ticket) s.waits) (λ e. rw e refl)
-    (λ w e. let m : w isIn s.waits = (oldest_some (λ w. ltb last w.ticket) s.waits w e).stands in by_bool (concerned_by changed w)
+    (λ w e. let m : w is_in s.waits = (oldest_some (λ w. ltb last w.ticket) s.waits w e).stands in by_bool (concerned_by changed w)
     (λ y. by_option (attempt s.objects w) (λ a. rw (e, y, a) (walk_told n changed w.ticket s))
     (λ t a. let u : State = after w t s in rw (e, y, a) (
       w,
@@ -206,7 +206,7 @@ own_reports : (op : Operation) (s : State) → Valid s → Reported s.waits (cha
 unfolding change
 own_reports (create k x y) s g = silent _ _ _
 own_reports (close h) s g = silent _ _ _
-own_reports (resetEvent h) s g = silent _ _ _
+own_reports (reset_event h) s g = silent _ _ _
 own_reports (read k h) s g = silent _ _ _
 own_reports (signal how h) s g = silent _ _ _
 own_reports (wait mode hs o f p a t now) s g = rw (admits_silent (new_wait mode hs o f a t s.next) now s) (silent _ _ _)
@@ -243,7 +243,7 @@ room : (op : Operation) (s : State) → Valid s → let d = change op s in 3 * l
 unfolding least change
 room (create k x y) s g = rw (walk_nothing (length s.waits) 0 _) (omega arith)
 room (close h) s g = rw (walk_nothing (length s.waits) 0 _) (omega arith)
-room (resetEvent h) s g = rw (walk_nothing (length s.waits) 0 _) (omega arith)
+room (reset_event h) s g = rw (walk_nothing (length s.waits) 0 _) (omega arith)
 room (read k h) s g = rw (walk_nothing (length s.waits) 0 _) (omega arith)
 room (signal how h) s g = let r = (call_reports (signal how h) s g).few in let q = g.slots in omega arith
 room (wait mode hs o f p a t now) s g = let w : Wait = new_wait mode hs o f a t s.next in let d : Change = admits w now s in
@@ -361,7 +361,7 @@ pub not_served : (a : ℕ) → eqb a 0 ≡ false → eqb a 4 ≡ false → Serve
 not_served a z f s = ⊎_elim (λ (e : a ≡ 0). eqb-false a 0 z e) (λ (e : a ≡ 4). eqb-false a 4 f e) s
 
 -- of a queue's waits
-queued_all : (s : State) → Valid s → (w : Wait) → w isIn s.waits → (r : Report) (os next : List Object) → Told w r os next → w.mode ≡ all → AllOrNone w r.answer r.index os next
+queued_all : (s : State) → Valid s → (w : Wait) → w is_in s.waits → (r : Report) (os next : List Object) → Told w r os next → w.mode ≡ all → AllOrNone w r.answer r.index os next
 queued_all s g w m r os next (inl (t, e, ea, ei, en)) mode =
     let (t0, (t1, (t2, (t3, (t4, (t5, (t6, (t7, (t8, t9))))))))) = passed _ (g.waits w m) in
     served_all w mode (let q : list_too_short w.mode w.list ≡ false = not-true _ t4 in rw mode at q) (let q : repeats w.mode (w.alert ∷ w.list) ≡ false = not-true _ t8 in rw mode at q) r.answer r.index os next t e ea ei en
@@ -406,18 +406,18 @@ cleared_unset o (semaphore c m) e = clash e refl
 cleared_unset o (mutex w c a) e = clash e refl
 cleared_unset o (event v m) e = refl
 
-pulses_event : (x : Object) → Accepted (signal_rule pulseEvent x).refusals → (is_event x ≡ true) × (is_event (signal_rule pulseEvent x).next ≡ true)
+pulses_event : (x : Object) → Accepted (signal_rule pulse_event x).refusals → (is_event x ≡ true) × (is_event (signal_rule pulse_event x).next ≡ true)
 pulses_event empty a = clash refl a.0
 pulses_event (semaphore c m) a = clash refl a.0
 pulses_event (mutex o c b) a = clash refl a.0
 pulses_event (event v m) a = (refl, refl)
 
-pub step_pulse : (s : State) (h : ℕ) (l : Lent) → let r = library_step s (asks (signal pulseEvent h) l) in r.answer ≡ 0 → (o : ℕ) → signaled o (object_at r.held.objects h) ≡ false
+pub step_pulse : (s : State) (h : ℕ) (l : Lent) → let r = library_step s (asks (signal pulse_event h) l) in r.answer ≡ 0 → (o : ℕ) → signaled o (object_at r.held.objects h) ≡ false
 unfolding library_step change refusals member
-step_pulse s h l = let c : Call = asks (signal pulseEvent h) l in perform_case wake_by_walk s c (λ r. r.answer ≡ 0 → (o : ℕ) → signaled o (object_at r.held.objects h) ≡ false)
+step_pulse s h l = let c : Call = asks (signal pulse_event h) l in perform_case wake_by_walk s c (λ r. r.answer ≡ 0 → (o : ℕ) → signaled o (object_at r.held.objects h) ≡ false)
     (λ n e z o. absurd (refusal_never c s n 0 refl e z))
-    (λ a z o. let x : Object = object_at s.objects h in let p = pulses_event x a.1 in let d : Change = change (signal pulseEvent h) s in
-    let put : is_event (object_at d.state.objects h) ≡ true = rw (at_put_same s.objects h (signal_rule pulseEvent x).next (event_occupied x p.0)) p.1 in
+    (λ a z o. let x : Object = object_at s.objects h in let p = pulses_event x a.1 in let d : Change = change (signal pulse_event h) s in
+    let put : is_event (object_at d.state.objects h) ≡ true = rw (at_put_same s.objects h (signal_rule pulse_event x).next (event_occupied x p.0)) p.1 in
     let v : State = (wake_by_walk d.changed d.state).state in
     let kept : is_event (object_at v.objects h) ≡ true = walk_keeps (λ u. is_event (object_at u.objects h) ≡ true) (λ u w t m q k. (still_acquire_each w.owner u.objects t.handles h).1 k)
     (length d.state.waits) d.changed 0 d.state put in

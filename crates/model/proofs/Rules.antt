@@ -9,7 +9,7 @@ use lib.ListN.{get_or}
 use lib.Dec.{eqb, ltb, eqb-suc-zero}
 use borrow.Author.Tests.{ltb-true, ltb-false, eqb-true, eqb-false, not-false, lt-ltb, le-leb, ne_eqb}
 use Rattle.model.specs.Basics.{bit, All}
-use Rattle.model.specs.Calls.{Kind, aSemaphore, aMutex, anEvent, Signal, post, unlock, kill, setEvent, pulseEvent, Call, Refusal, signal_rule, reset_rule, bad_new, new_object, lowest_empty, new_handle, time_up, change}
+use Rattle.model.specs.Calls.{Kind, a_semaphore, a_mutex, an_event, Signal, post, unlock, kill, set_event, pulse_event, Call, Refusal, signal_rule, reset_rule, bad_new, new_object, lowest_empty, new_handle, time_up, change}
 use Rattle.model.specs.Layout.{valid_object}
 use Rattle.model.specs.Sizes.{word32}
 use Rattle.model.specs.Objects.{Object, empty, semaphore, mutex, event, occupied, is_event, signaled, never_signaled, cleared}
@@ -34,11 +34,11 @@ abbrev pub due : ℕ → ℕ → Wait → Bool
 due clock time w = eqb w.clock clock && time_up w.timeout time
 
 -- a call's outcome, by whether it is refused
-pub perform_case : (wakeUp : List ℕ → State → Woken) (s : State) (c : Call) (P : Outcome State → Type 0)
+pub perform_case : (wake_up : List ℕ → State → Woken) (s : State) (c : Call) (P : Outcome State → Type 0)
     → ((n : ℕ) → first_refusal (conditions c s) ≡ some n → P (unaltered n c.lent s))
-    → (Accepted (conditions c s) → P (completed wakeUp c.lent (change c.operation s)))
-    → P (perform wakeUp s c)
-perform_case wakeUp s c P r a = by_option (first_refusal (conditions c s))
+    → (Accepted (conditions c s) → P (completed wake_up c.lent (change c.operation s)))
+    → P (perform wake_up s c)
+perform_case wake_up s c P r a = by_option (first_refusal (conditions c s))
     (λ e. rw e (a (accepted (conditions c s) e)))
     (λ n e. rw e (r n e))
 
@@ -93,14 +93,14 @@ signal_keeps (kill asking) empty h = clash refl h.0
 signal_keeps (kill asking) (semaphore c m) h = clash refl h.0
 signal_keeps (kill asking) (mutex o c a) h = record { was = refl; there = refl; event = λ e. e; valid = λ g. pass _ (refl, (refl, (refl, (refl, tt)))) }
 signal_keeps (kill asking) (event v m) h = clash refl h.0
-signal_keeps setEvent empty h = clash refl h.0
-signal_keeps setEvent (semaphore c m) h = clash refl h.0
-signal_keeps setEvent (mutex o c a) h = clash refl h.0
-signal_keeps setEvent (event v m) h = event_keeps v m true
-signal_keeps pulseEvent empty h = clash refl h.0
-signal_keeps pulseEvent (semaphore c m) h = clash refl h.0
-signal_keeps pulseEvent (mutex o c a) h = clash refl h.0
-signal_keeps pulseEvent (event v m) h = event_keeps v m true
+signal_keeps set_event empty h = clash refl h.0
+signal_keeps set_event (semaphore c m) h = clash refl h.0
+signal_keeps set_event (mutex o c a) h = clash refl h.0
+signal_keeps set_event (event v m) h = event_keeps v m true
+signal_keeps pulse_event empty h = clash refl h.0
+signal_keeps pulse_event (semaphore c m) h = clash refl h.0
+signal_keeps pulse_event (mutex o c a) h = clash refl h.0
+signal_keeps pulse_event (event v m) h = event_keeps v m true
 
 pub reset_keeps : (x : Object) → Accepted (reset_rule x).refusals → Keeps x (reset_rule x).next
 reset_keeps empty h = clash refl h.0
@@ -128,14 +128,14 @@ cleared_occupied (mutex o c a) = refl
 cleared_occupied (event v m) = refl
 
 pub new_occupied : (k : Kind) (x y : ℕ) → occupied (new_object k x y) ≡ true
-new_occupied aSemaphore x y = refl
-new_occupied aMutex x y = refl
-new_occupied anEvent x y = refl
+new_occupied a_semaphore x y = refl
+new_occupied a_mutex x y = refl
+new_occupied an_event x y = refl
 
 pub new_valid : (k : Kind) (x y : ℕ) → x < word32 → y < word32 → bad_new k x y ≡ false → valid_object (new_object k x y) ≡ true
-new_valid aSemaphore c m lx ly e = let r = or_split (ltb m c) (never_signaled m) e in pass _ (le-leb c m (ltb-false m c r.0), (lt-ltb m word32 ly, (ap not r.1, tt)))
-new_valid aMutex o c lx ly e = pass _ (lt-ltb o word32 lx, (lt-ltb c word32 ly, (not-false _ e, (refl, tt))))
-new_valid anEvent v m lx ly e = refl
+new_valid a_semaphore c m lx ly e = let r = or_split (ltb m c) (never_signaled m) e in pass _ (le-leb c m (ltb-false m c r.0), (lt-ltb m word32 ly, (ap not r.1, tt)))
+new_valid a_mutex o c lx ly e = pass _ (lt-ltb o word32 lx, (lt-ltb c word32 ly, (not-false _ e, (refl, tt))))
+new_valid an_event v m lx ly e = refl
 
 -- the lowest empty place is empty, also where there is none, and those below it are occupied
 unoccupied : (x : Object) → occupied x ≡ false → x ≡ empty

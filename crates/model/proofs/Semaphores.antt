@@ -10,7 +10,7 @@ use lib.Dec.{ltb}
 use borrow.Author.Tests.{ltb-true, ltb-false, eqb-true, eqb-false, le-ltb}
 use Rattle.model.specs.Objects.{semaphore, never_signaled}
 use Rattle.model.specs.Waits.{State, object_at}
-use Rattle.model.specs.Calls.{aSemaphore, post, create, signal, Lent, asks, least, new_handle, refusals, change}
+use Rattle.model.specs.Calls.{a_semaphore, post, create, signal, Lent, asks, least, new_handle, refusals, change}
 use Rattle.model.specs.Layout.{view, valid_object, valid_tables}
 use Rattle.model.specs.Steps.{first_refusal, library_step, table_step}
 use Rattle.model.specs.Notions.{LongEnough}
@@ -19,7 +19,7 @@ use Rattle.model.proofs.Validity.{tables_valid}
 use Rattle.model.proofs.Valid.{Valid}
 use Rattle.model.proofs.Literal.{has_maximum}
 
-step_semaphore : (s : State) (c m : ℕ) (l : Lent) → ((library_step s (asks (create aSemaphore c m) l)).answer ≡ 1) ↔ ((m < c) ⊎ (m ≡ 0))
+step_semaphore : (s : State) (c m : ℕ) (l : Lent) → ((library_step s (asks (create a_semaphore c m) l)).answer ≡ 1) ↔ ((m < c) ⊎ (m ≡ 0))
 unfolding library_step first_refusal refusals least change
 step_semaphore s c m l =
     let a : ltb (length l.wake) 0 ≡ false = le-ltb (length l.wake) 0 (omega arith) in
@@ -33,7 +33,7 @@ step_semaphore s c m l =
     (λ g. rw (a, b, n, f, g) (λ (q : ◌≡◌ {A = ℕ} 0 1). absurd (let z : ⊥ = omega arith in z), λ q. absurd (no q)))))
 
 pub tables_semaphore : (t : List ℕ) → valid_tables t ≡ true → (c m : ℕ) (l : Lent)
-    → ((table_step t (asks (create aSemaphore c m) l)).answer ≡ 1) ↔ ((m < c) ⊎ (m ≡ 0))
+    → ((table_step t (asks (create a_semaphore c m) l)).answer ≡ 1) ↔ ((m < c) ⊎ (m ≡ 0))
 unfolding table_step
 tables_semaphore t v c m l = rw v (step_semaphore (view t) c m l)
 

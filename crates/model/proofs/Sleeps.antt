@@ -12,10 +12,10 @@ use Rattle.model.specs.Basics.{All}
 use Rattle.model.specs.Objects.{Object, signaled}
 use Rattle.model.specs.Waits.{any, Wait, WaitPlace, free, waiting, State, with_waits, object_at, lowest_signaled, look}
 use Rattle.model.specs.Waits.{attempt, dequeue, oldest, concerned_by, Report, serve, try_to_serve, walk_queue, wake_by_walk}
-use Rattle.model.specs.Calls.{Operation, create, close, resetEvent, read, signal, wait, expire, cancel, snapshot}
+use Rattle.model.specs.Calls.{Operation, create, close, reset_event, read, signal, wait, expire, cancel, snapshot}
 use Rattle.model.specs.Calls.{Call, new_wait, Change, end_each, change}
 use Rattle.model.specs.Steps.{library_step}
-use Rattle.model.specs.Notions.{◌isIn◌}
+use Rattle.model.specs.Notions.{◌is_in◌}
 use Rattle.model.proofs.Logic.{by_bool, by_option, differ, clash}
 use Rattle.model.proofs.Queue.{oldest_some, dequeue_in}
 use Rattle.model.proofs.Cells.{at_in}
@@ -32,7 +32,7 @@ attempt_none os w m l = rw (m, l)
 
 -- a claim on the queued waits with this ticket; no objects could serve this wait
 abbrev OfTicket : (Wait → Type 0) → ℕ → State → Type 0
-OfTicket P t s = (v : Wait) → v isIn s.waits → v.ticket ≡ t → P v
+OfTicket P t s = (v : Wait) → v is_in s.waits → v.ticket ≡ t → P v
 
 abbrev Unservable : Wait → Type 0
 Unservable w = (os : List Object) → attempt os w ≡ none
@@ -41,7 +41,7 @@ walk_unreported : (n : ℕ) (changed : List ℕ) (last : ℕ) (s : State) (t : �
 unfolding walk_queue try_to_serve serve
 walk_unreported zero changed last s t k = tt
 walk_unreported (suc n) changed last s t k = by_option (oldest (λ w. ltb last w.ticket) s.waits) (λ e. rw e tt)
-    (λ w e. let m : w isIn s.waits = (oldest_some (λ w. ltb last w.ticket) s.waits w e).stands in by_bool (concerned_by changed w)
+    (λ w e. let m : w is_in s.waits = (oldest_some (λ w. ltb last w.ticket) s.waits w e).stands in by_bool (concerned_by changed w)
     (λ y. by_option (attempt s.objects w) (λ a. rw (e, y, a) (walk_unreported n changed w.ticket s t k))
     (λ g a. rw (e, y, a) (
       λ i. differ (let q : none ≡ some g = sym (k w m i s.objects) ∙ a in cc),
@@ -63,7 +63,7 @@ change_unreported : (op : Operation) (s : State) (t : ℕ) → OfTicket (λ v. v
 unfolding change
 change_unreported (create j x y) s t k = tt
 change_unreported (close h) s t k = tt
-change_unreported (resetEvent h) s t k = tt
+change_unreported (reset_event h) s t k = tt
 change_unreported (read j h) s t k = tt
 change_unreported (signal how h) s t k = tt
 change_unreported (wait mode hs o f p a timeout time) s t k = rw (admits_silent (new_wait mode hs o f a timeout s.next) time s) tt
@@ -83,10 +83,10 @@ step_unended s c p w g e u l n = step_stays s c p w e n (perform_case wake_by_wa
     (λ a. let d : Change = change c.operation s in all_both _ d.reports (wake_by_walk d.changed d.state).reports
     (change_unreported c.operation s w.ticket (λ v m i. subst (λ (x : Wait). x.timeout ≡ never) (sym (same v m i)) l)) (woken d (change_queue c.operation s))))
   where
-    same : (v : Wait) → v isIn s.waits → v.ticket ≡ w.ticket → v ≡ w
+    same : (v : Wait) → v is_in s.waits → v.ticket ≡ w.ticket → v ≡ w
     same v m i = distinct_tickets_lem s.waits g.distinct v w m (at_in s.waits p w e) i
 
     woken : (d : Change) → (d.changed ≡ []) ⊎ ((d.state.waits ≡ s.waits) × (d.reports ≡ [])) → Unreported w.ticket (wake_by_walk d.changed d.state).reports
     woken d q = ⊎_elim (λ (z : d.changed ≡ []). rw (z, walk_nothing (length d.state.waits) 0 d.state) tt)
         (λ (z : (d.state.waits ≡ s.waits) × (d.reports ≡ [])). walk_unreported (length d.state.waits) d.changed 0 d.state w.ticket
-        (λ v m i. subst Unservable (sym (same v (subst (λ (ws : List WaitPlace). v isIn ws) z.0 m) i)) u)) q
+        (λ v m i. subst Unservable (sym (same v (subst (λ (ws : List WaitPlace). v is_in ws) z.0 m) i)) u)) q

@@ -17,7 +17,7 @@ use Rattle.model.specs.Snapshot.{ascii, digits_up_to, line, object_text, objects
 use Rattle.model.specs.Layout.{valid_object, valid_wait, distinct_tickets}
 use Rattle.model.specs.Sizes.{object_places, wait_places, max_listed, word32, word64, mutex_ceiling, never, snapshot_buffer, longest_snapshot}
 use Rattle.model.specs.Objects.{Object, empty, semaphore, mutex, event, occupied, is_event}
-use Rattle.model.specs.Notions.{◌isIn◌}
+use Rattle.model.specs.Notions.{◌is_in◌}
 use Rattle.model.specs.Waits.{Mode, any, all, Wait, WaitPlace, waiting, State, object_at, oldest}
 use Rattle.model.proofs.Digits.{digits, digits_bound, digits_u32, digits_u64}
 use Rattle.model.proofs.Logic.{by_bool, by_option, clash, and_split, passed}
@@ -150,7 +150,7 @@ alert_short : (os : List Object) (w : Wait) → length os ≡ object_places → 
 alert_short os w p g = ⊎_elim (λ (z : w.alert ≡ 0). handle_short (omega arith))
     (λ e. let l : w.alert ≤ length os = (in_places os w.alert (event_occupied (object_at os w.alert) e)).1 in handle_short (omega arith)) (alert_case os w g)
 
-queue_most : (n last : ℕ) (ws : List WaitPlace) (b : ℕ) → ((w : Wait) → w isIn ws → Most (wait_text w) b) → Most (joined wait_text (queue_from n last ws)) (n * b)
+queue_most : (n last : ℕ) (ws : List WaitPlace) (b : ℕ) → ((w : Wait) → w is_in ws → Most (wait_text w) b) → Most (joined wait_text (queue_from n last ws)) (n * b)
 unfolding queue_from joined
 queue_most zero last ws b h = record { most = omega arith }
 queue_most (suc n) last ws b h = by_option (oldest (λ w. ltb last w.ticket) ws)
@@ -165,7 +165,7 @@ queue_length (suc n) last ws = by_option (oldest (λ w. ltb last w.ticket) ws)
     (λ w e. rw e (let l = queue_length n w.ticket ws in omega arith))
 
 -- THE WHOLE: objects of at most o bytes, waits of at most b each, and 47 bytes of the three other lines
-whole_most : (s : State) (o b : ℕ) → Valid s → Most (objects_text 1 s.objects) o → ((w : Wait) → w isIn s.waits → Most (wait_text w) b) → Most (snapshot_body s) (47 + o + wait_places * b)
+whole_most : (s : State) (o b : ℕ) → Valid s → Most (objects_text 1 s.objects) o → ((w : Wait) → w is_in s.waits → Most (wait_text w) b) → Most (snapshot_body s) (47 + o + wait_places * b)
 unfolding snapshot_body
 whole_most s o b g os ws =
     let p = g.places in let q = g.slots in let c = count_most s.objects in let l = queue_length (length s.waits) 0 s.waits in
@@ -192,10 +192,10 @@ alert_fits = lit≤ tt
 -- wait is 2 bytes shorter.
 body_longest : (s : State) → Valid s → length (snapshot_body s) ≤ longest_body
 body_longest s g = let p = g.places in
-    let ticket : (w : Wait) → w isIn s.waits → w.ticket < word64 = λ w m. (let (a, b) = g.tickets w m in let u = g.bounded in omega arith) in
+    let ticket : (w : Wait) → w is_in s.waits → w.ticket < word64 = λ w m. (let (a, b) = g.tickets w m in let u = g.bounded in omega arith) in
     let alerted : Wait → Bool = λ w. not (eqb w.alert 0) in
     by_option (oldest alerted s.waits)
-    (λ n. let unalerted : (w : Wait) → w isIn s.waits → Short w.alert 1 = λ w m. (let z = eqb-true w.alert 0 (not-false _ (oldest_none alerted s.waits n w m)) in rw z (short_flag false)) in
+    (λ n. let unalerted : (w : Wait) → w is_in s.waits → Short w.alert 1 = λ w m. (let z = eqb-true w.alert 0 (not-false _ (oldest_none alerted s.waits n w m)) in rw z (short_flag false)) in
     let k = whole_most s _ (long_wait 1) g (objects_most s.objects 1 (λ i. g.objects (suc i))) (λ w m. wait_most s.objects w 1 p (g.waits w m) (ticket w m) (unalerted w m)) in
     le_trans (rw p at k.most) no_alert_fits)
     (λ v e. let z = oldest_some alerted s.waits v e in

@@ -11,7 +11,7 @@ use lib.Dec.{eqb, ltb}
 use borrow.Author.Tests.{eqb-false, le-ltb, eq-eqb, ne_eqb}
 use Rattle.model.specs.Basics.{corrupt, any_of, member, tabulate, joined, All, overwrite}
 use Rattle.model.specs.Calls.{Kind, create, new_object}
-use Rattle.model.specs.Calls.{signal, pulseEvent, wait, cancel, Lent, nothing_lent, Call, asks, least, refusal}
+use Rattle.model.specs.Calls.{signal, pulse_event, wait, cancel, Lent, nothing_lent, Call, asks, least, refusal}
 use Rattle.model.specs.Calls.{wait_faults, time_up}
 use Rattle.model.specs.Calls.{new_wait, must_queue, waits_full, refusals, admits, change, WithinWidths}
 use Rattle.model.specs.Layout.{object_size, wait_size, table_length, object_cells, wait_cells, encode, view}
@@ -21,7 +21,7 @@ use Rattle.model.specs.Objects.{Object, empty, signaled}
 use Rattle.model.specs.Steps.{Outcome, unaltered, conditions, first_refusal, records, library_step, reference_step}
 use Rattle.model.specs.Steps.{on_tables, as_read, table_step, run, make_tables}
 use Rattle.model.specs.Notions.{refusal_numbers, FirstIs, Quiet, touched, Rising, AllOrNone, LongEnough}
-use Rattle.model.specs.Notions.{wrong_object, ◌isIn◌}
+use Rattle.model.specs.Notions.{wrong_object, ◌is_in◌}
 use Rattle.model.specs.Waits.{Mode, any, all, Wait, free, waiting, State, initial, object_at, Grant, attempt}
 use Rattle.model.specs.Waits.{servable, any_abandoned, served_answer, wake_by_walk, wake_by_search}
 use Rattle.model.proofs.History.{Settled, step_same, step_settled}
@@ -211,9 +211,9 @@ tables_all_now t hs o f p a timeout time l fit = left_tables t (asks (wait all h
     (λ s r. AllOrNone (new_wait all hs o f a timeout 0) r.answer r.first (view t).objects s.objects)
     (unserved_all _ 9 0 _ _ (not_served 9 refl refl) refl) (λ g. step_all_now hs o f p a timeout time l (view t))
 
-pub tables_pulse : (t : List ℕ) (h : ℕ) (l : Lent) → WithinWidths (asks (signal pulseEvent h) l) → let r = table_step t (asks (signal pulseEvent h) l) in
+pub tables_pulse : (t : List ℕ) (h : ℕ) (l : Lent) → WithinWidths (asks (signal pulse_event h) l) → let r = table_step t (asks (signal pulse_event h) l) in
     r.answer ≡ 0 → (o : ℕ) → signaled o (object_at (view r.held).objects h) ≡ false
-tables_pulse t h l fit = left_tables t (asks (signal pulseEvent h) l) fit (λ s r. r.answer ≡ 0 → (o : ℕ) → signaled o (object_at s.objects h) ≡ false)
+tables_pulse t h l fit = left_tables t (asks (signal pulse_event h) l) fit (λ s r. r.answer ≡ 0 → (o : ℕ) → signaled o (object_at s.objects h) ≡ false)
     (λ z. absurd (let y : ⊥ = omega arith in y)) (λ g. step_pulse (view t) h l)
 
 -- creating and cancelling
@@ -224,8 +224,8 @@ tables_creates t k x y l fit = left_tables t (asks (create k x y) l) fit
     (λ z. absurd (let y : ⊥ = omega arith in y)) (λ g. step_creates k x y l (view t))
 
 pub tables_cancels : (t : List ℕ) (k : ℕ) (l : Lent) → WithinWidths (asks (cancel k) l) → let r = table_step t (asks (cancel k) l) in
-    r.answer ≡ 6 → (v : Wait) → v isIn (view r.held).waits → v.ticket ≡ k → ⊥
-tables_cancels t k l fit = left_tables t (asks (cancel k) l) fit (λ s r. r.answer ≡ 6 → (v : Wait) → v isIn s.waits → v.ticket ≡ k → ⊥)
+    r.answer ≡ 6 → (v : Wait) → v is_in (view r.held).waits → v.ticket ≡ k → ⊥
+tables_cancels t k l fit = left_tables t (asks (cancel k) l) fit (λ s r. r.answer ≡ 6 → (v : Wait) → v is_in s.waits → v.ticket ≡ k → ⊥)
     (λ z. absurd (let y : ⊥ = omega arith in y)) (λ g. step_cancels k l (view t))
 
 pub search_ends : (s : State) → Valid s → Quiet (wake_by_search [] s).state

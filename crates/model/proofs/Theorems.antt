@@ -16,13 +16,13 @@ use Rattle.model.specs.Waits.{Mode, any, all, Wait, free, waiting, State, initia
 use Rattle.model.specs.Waits.{servable, wake_by_search}
 use Rattle.model.specs.Snapshot.{line, snapshot_text}
 use Rattle.model.specs.Calls.{wait, cancel, Lent, nothing_lent, Call, asks, refusal, wait_faults, time_up, new_wait}
-use Rattle.model.specs.Calls.{Kind, aSemaphore, create, new_object, post, pulseEvent, signal, waits_full, change}
+use Rattle.model.specs.Calls.{Kind, a_semaphore, create, new_object, post, pulse_event, signal, waits_full, change}
 use Rattle.model.specs.Calls.{WithinWidths}
 use Rattle.model.specs.Layout.{table_length, encode, view, valid_state, valid_tables}
 use Rattle.model.specs.ValidCells.{ValidCells}
 use Rattle.model.specs.Steps.{Outcome, unaltered, conditions, first_refusal, records, reference_step, on_tables}
 use Rattle.model.specs.Steps.{as_read, table_step, seen, run, make_tables}
-use Rattle.model.specs.Notions.{refusal_numbers, FirstIs, ◌isIn◌, Quiet, taken_by, touched, Rising, Served, Ended}
+use Rattle.model.specs.Notions.{refusal_numbers, FirstIs, ◌is_in◌, Quiet, taken_by, touched, Rising, Served, Ended}
 use Rattle.model.specs.Notions.{OneByOne, AllOrNone, LongEnough, wrong_object}
 use Rattle.model.specs.Reading.{good, bad, by_read, number_line, Lines, read_snapshot}
 use Rattle.model.specs.Restore.{shown, quiet, accepted, refused, restored, by_restored, unread, restore_tables}
@@ -125,7 +125,7 @@ always_quiet cs fit = run_quiet initial cs fit initial_settled
 -- served took, keeps all its values.
 pub frame_objects : (t : List ℕ) (c : Call) → WithinWidths c → (h : ℕ)
     → member h (touched c.operation (table_step t c).answer (table_step t c).first) ≡ false
-    → All (λ r. (w : Wait) → w isIn (view t).waits → w.ticket ≡ r.ticket → (r.answer ≡ 5 → ⊥)
+    → All (λ r. (w : Wait) → w is_in (view t).waits → w.ticket ≡ r.ticket → (r.answer ≡ 5 → ⊥)
     → member h (taken_by w r.index) ≡ false) (table_step t c).reports
     → object_at (view (table_step t c).held).objects h ≡ object_at (view t).objects h
 frame_objects t c fit h = tables_objects t c fit h
@@ -191,14 +191,14 @@ creates_lowest t k x y l fit = tables_creates t k x y l fit
 
 -- "6 .. the wait is gone": after a cancel answered 6 no queued wait has that ticket.
 pub cancelled_gone : (t : List ℕ) (k : ℕ) (l : Lent) → let c = asks (cancel k) l in WithinWidths c
-    → (table_step t c).answer ≡ 6 → (v : Wait) → v isIn (view (table_step t c).held).waits → v.ticket ≡ k → ⊥
+    → (table_step t c).answer ≡ 6 → (v : Wait) → v is_in (view (table_step t c).held).waits → v.ticket ≡ k → ⊥
 cancelled_gone t k l fit = tables_cancels t k l fit
 
 -- 6. THE RECORDS ARE THE SERVED OR ENDED WAITS, for any cells. Each report's ticket is that of a wait queued before the
 -- call, and of no wait queued after it.
 pub records_are_waits : (t : List ℕ) (c : Call) → WithinWidths c
-    → All (λ r. ((w : Wait) × (w isIn (view t).waits) × (w.ticket ≡ r.ticket))
-    × ((v : Wait) → v isIn (view (table_step t c).held).waits → v.ticket ≡ r.ticket → ⊥))
+    → All (λ r. ((w : Wait) × (w is_in (view t).waits) × (w.ticket ≡ r.ticket))
+    × ((v : Wait) → v is_in (view (table_step t c).held).waits → v.ticket ≡ r.ticket → ⊥))
     (table_step t c).reports
 records_are_waits t c fit = tables_left t c fit
 
@@ -225,7 +225,7 @@ pub records_were_served : (t : List ℕ) → valid_tables t ≡ true → (c : Ca
 records_were_served t v c fit a = (tables_told t v c fit a).0
 
 -- "A pulse clears its event after that search": after a pulse answered 0 its event is signaled for nobody.
-pub pulse_clears : (t : List ℕ) (h : ℕ) (l : Lent) → let c = asks (signal pulseEvent h) l in WithinWidths c
+pub pulse_clears : (t : List ℕ) (h : ℕ) (l : Lent) → let c = asks (signal pulse_event h) l in WithinWidths c
     → (table_step t c).answer ≡ 0 → (o : ℕ)
     → signaled o (object_at (view (table_step t c).held).objects h) ≡ false
 pulse_clears t h l fit = tables_pulse t h l fit
@@ -373,7 +373,7 @@ places_reached = tables_reached
 -- 12. A SEMAPHORE'S MAXIMUM IS NOT 0 (4/13). "Creating with maximum 0 is EINVAL from now on": on valid tables, where
 -- every place is in use too, creating a semaphore is answered 1 exactly if its count exceeds its maximum or that is 0.
 pub semaphore_refused : (t : List ℕ) → valid_tables t ≡ true → (count max : ℕ) (l : Lent)
-    → ((table_step t (asks (create aSemaphore count max) l)).answer ≡ 1) ↔ ((max < count) ⊎ (max ≡ 0))
+    → ((table_step t (asks (create a_semaphore count max) l)).answer ≡ 1) ↔ ((max < count) ⊎ (max ≡ 0))
 semaphore_refused t v count max l = tables_semaphore t v count max l
 
 -- So there are no "semaphores that can never be signaled": on valid tables a post of 1 to one whose count is 0 is

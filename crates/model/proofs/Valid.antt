@@ -11,12 +11,12 @@ use lib.ListN.{length, get_or, length-set}
 use lib.Dec.{eqb, ltb, eqb-suc-zero}
 use borrow.Author.Tests.{ltb-true, ltb-false, leb-true, leb-false, eqb-true, eqb-false, not-true, not-false, lt-ltb, le-leb, ne_eqb}
 use Rattle.model.specs.Basics.{any_of, member, has_repeat}
-use Rattle.model.specs.Calls.{Operation, create, close, resetEvent, read, signal, wait, expire, cancel, snapshot, Lent, Call, new_object, new_handle, all_occupied, repeats, wait_faults, time_up, new_wait, must_queue, enqueue, refusals, Change, admits, end_each, change, WithinWidths}
+use Rattle.model.specs.Calls.{Operation, create, close, reset_event, read, signal, wait, expire, cancel, snapshot, Lent, Call, new_object, new_handle, all_occupied, repeats, wait_faults, time_up, new_wait, must_queue, enqueue, refusals, Change, admits, end_each, change, WithinWidths}
 use Rattle.model.specs.Layout.{valid_object, valid_wait, distinct_tickets}
 use Rattle.model.specs.Sizes.{object_places, wait_places, word32, word64, tickets_end, mutex_ceiling}
 use Rattle.model.specs.Objects.{Object, empty, semaphore, mutex, event, occupied, is_event, signaled, acquired, cleared}
 use Rattle.model.specs.Steps.{library_step}
-use Rattle.model.specs.Notions.{◌isIn◌}
+use Rattle.model.specs.Notions.{◌is_in◌}
 use Rattle.model.specs.Waits.{Mode, any, all, Wait, WaitPlace, free, waiting, State, with_objects, with_waits, object_at, put_at, put_object, Grant, lowest_signaled, all_signaled, look, attempt, acquire_each, dequeue, oldest, any_waiting, named_by, concerned_by, walk_queue, wake_by_walk}
 use Rattle.model.proofs.Waking.{Consistent, walk_keeps}
 use Rattle.model.proofs.Logic.{by_bool, by_option, is_some, clash, differ, ◌implies◌, and_split, or_left, or_right, or_mono, or_split, eqb_same, passed, pass, fault_free}
@@ -28,8 +28,8 @@ pub record Valid (s : State) : Type 0 where
   pub places : length s.objects ≡ object_places
   pub slots : length s.waits ≡ wait_places
   pub objects : (h : ℕ) → valid_object (object_at s.objects h) ≡ true
-  pub waits : (w : Wait) → w isIn s.waits → valid_wait s.objects w ≡ true
-  pub tickets : (w : Wait) → w isIn s.waits → (0 < w.ticket) × (w.ticket < s.next)
+  pub waits : (w : Wait) → w is_in s.waits → valid_wait s.objects w ≡ true
+  pub tickets : (w : Wait) → w is_in s.waits → (0 < w.ticket) × (w.ticket < s.next)
   pub distinct : distinct_tickets s.waits ≡ true
   pub started : 0 < s.next
   pub bounded : s.next < word64
@@ -134,7 +134,7 @@ valid_wait_mono os os' w t e = let (t0, (t1, (t2, (t3, (t4, (t5, (t6, (t7, (t8, 
       ),
     )
 
-pub valid_objects : (s : State) (os : List Object) → Valid s → length os ≡ length s.objects → AllValid os → ((w : Wait) → w isIn s.waits → (k : ℕ) → member k (named_by w) ≡ true → Still (object_at s.objects k) (object_at os k)) → Valid (with_objects s os)
+pub valid_objects : (s : State) (os : List Object) → Valid s → length os ≡ length s.objects → AllValid os → ((w : Wait) → w is_in s.waits → (k : ℕ) → member k (named_by w) ≡ true → Still (object_at s.objects k) (object_at os k)) → Valid (with_objects s os)
 valid_objects s os g l a t = record {
   places = l ∙ g.places;
   slots = g.slots;
@@ -150,10 +150,10 @@ pub valid_put : (s : State) (h : ℕ) (x : Object) → Valid s → valid_object 
 valid_put s h x g e t = valid_objects s (put_at s.objects h x) g (length_put_at s.objects h x) (put_valid s.objects h x g.objects e) (λ w m k i. still_put_at s.objects h x t k)
 
 -- THE QUEUE
-pub none_waiting : (f : Wait → Bool) (ws : List WaitPlace) → ((w : Wait) → w isIn ws → f w ≡ false) → any_waiting f ws ≡ false
+pub none_waiting : (f : Wait → Bool) (ws : List WaitPlace) → ((w : Wait) → w is_in ws → f w ≡ false) → any_waiting f ws ≡ false
 none_waiting f ws h = ap is_some (oldest_is_none f ws h)
 
-pub waiting_none : (f : Wait → Bool) (ws : List WaitPlace) → any_waiting f ws ≡ false → (w : Wait) → w isIn ws → f w ≡ false
+pub waiting_none : (f : Wait → Bool) (ws : List WaitPlace) → any_waiting f ws ≡ false → (w : Wait) → w is_in ws → f w ≡ false
 waiting_none f ws e = oldest_none f ws (by_option (oldest f ws) (λ n. n) (λ w q. clash (ap is_some q) e))
 
 pub length_dequeue : (t : ℕ) (ws : List WaitPlace) → length (dequeue t ws) ≡ length ws
@@ -178,7 +178,7 @@ distinct_dequeue t (waiting w ∷ ws) e = let r = and_split (not (any_waiting (�
     let k : any_waiting (λ v. eqb v.ticket w.ticket) (dequeue t ws) ≡ false = none_waiting _ (dequeue t ws) (λ v m. waiting_none (λ v. eqb v.ticket w.ticket) ws (not-true _ r.0) v (dequeue_in t ws v m).0) in
     rw (k, distinct_dequeue t ws r.1)))
 
-pub distinct_enqueue : (w : Wait) (ws : List WaitPlace) → ((v : Wait) → v isIn ws → v.ticket ≡ w.ticket → ⊥) → distinct_tickets ws ≡ true → distinct_tickets (enqueue w ws) ≡ true
+pub distinct_enqueue : (w : Wait) (ws : List WaitPlace) → ((v : Wait) → v is_in ws → v.ticket ≡ w.ticket → ⊥) → distinct_tickets ws ≡ true → distinct_tickets (enqueue w ws) ≡ true
 unfolding distinct_tickets enqueue
 distinct_enqueue w [] h e = e
 distinct_enqueue w (free ∷ ws) h e =
@@ -307,7 +307,7 @@ admits_valid w time s g v k r = by_option (attempt s.objects w)
       slots = length_enqueue w s.waits ∙ g.slots;
       objects = g.objects;
       waits = λ u m. ⊎_elim (λ (p : u ≡ w). rw p v) (λ j. g.waits u j) (enqueue_in w s.waits u m);
-      tickets = λ u m. ⊎_elim (λ (p : u ≡ w). let z = g.started in rw (p, k) (omega arith)) (λ (j : u isIn s.waits). let z = g.tickets u j in (z.0, (let q : u.ticket < s.next = z.1 in omega arith))) (enqueue_in w s.waits u m);
+      tickets = λ u m. ⊎_elim (λ (p : u ≡ w). let z = g.started in rw (p, k) (omega arith)) (λ (j : u is_in s.waits). let z = g.tickets u j in (z.0, (let q : u.ticket < s.next = z.1 in omega arith))) (enqueue_in w s.waits u m);
       distinct = distinct_enqueue w s.waits (λ u m q. let z : u.ticket < s.next = (g.tickets u m).1 in let w' : ⊥ = omega arith in w') g.distinct;
       started = let z = g.started in omega arith;
       bounded = let z = g.bounded in let y : s.next ≡ tickets_end → ⊥ = eqb-false s.next tickets_end left in omega (arith, y);
@@ -318,7 +318,7 @@ pub change_valid : (op : Operation) (l : Lent) (s : State) → WithinWidths (rec
 unfolding refusals change
 change_valid (create k x y) l s fit a g = create_valid s (new_object k x y) g (new_valid k x y fit.0.0 fit.0.1.0 a.0)
 change_valid (close h) l s fit a g = close_valid h s g a.1.0
-change_valid (resetEvent h) l s fit a g = keeps_valid s h _ g (reset_keeps (object_at s.objects h) a)
+change_valid (reset_event h) l s fit a g = keeps_valid s h _ g (reset_keeps (object_at s.objects h) a)
 change_valid (read k h) l s fit a g = g
 change_valid (signal how h) l s fit a g = keeps_valid s h _ g (signal_keeps how (object_at s.objects h) a)
 change_valid (wait mode hs o f p al t now) l s fit a g = admits_valid (new_wait mode hs o f al t s.next) now s g (new_wait_valid mode hs o f p al t s fit.0.0 fit.1.0 a.0) refl a.1.1.0
@@ -339,10 +339,10 @@ unfolding distinct_tickets
 distinct_tickets_lem [] a v w m k e = absurd m
 distinct_tickets_lem (free ∷ ws) a v w m k e = distinct_tickets_lem ws a v w m k e
 distinct_tickets_lem (waiting u ∷ ws) a v w m k e = let r = and_split (not (any_waiting (λ x. eqb x.ticket u.ticket) ws)) (distinct_tickets ws) a in
-    let other : (x : Wait) → x isIn ws → x.ticket ≡ u.ticket → ⊥ = λ x j i. eqb-false x.ticket u.ticket (waiting_none (λ x. eqb x.ticket u.ticket) ws (not-true _ r.0) x j) i in
+    let other : (x : Wait) → x is_in ws → x.ticket ≡ u.ticket → ⊥ = λ x j i. eqb-false x.ticket u.ticket (waiting_none (λ x. eqb x.ticket u.ticket) ws (not-true _ r.0) x j) i in
     ⊎_elim
-    (λ (p : v ≡ u). ⊎_elim (λ (q : w ≡ u). p ∙ sym q) (λ (j : w isIn ws). absurd (other w j (sym e ∙ ap (λ (x : Wait). x.ticket) p))) k)
-    (λ (i : v isIn ws). ⊎_elim (λ (q : w ≡ u). absurd (other v i (e ∙ ap (λ (x : Wait). x.ticket) q))) (λ (j : w isIn ws). distinct_tickets_lem ws r.1 v w i j e) k) m
+    (λ (p : v ≡ u). ⊎_elim (λ (q : w ≡ u). p ∙ sym q) (λ (j : w is_in ws). absurd (other w j (sym e ∙ ap (λ (x : Wait). x.ticket) p))) k)
+    (λ (i : v is_in ws). ⊎_elim (λ (q : w ≡ u). absurd (other v i (e ∙ ap (λ (x : Wait). x.ticket) q))) (λ (j : w is_in ws). distinct_tickets_lem ws r.1 v w i j e) k) m
 
 pub all_occupied_in : (os : List Object) (hs : List ℕ) → all_occupied os hs ≡ true → (h : ℕ) → member h hs ≡ true → occupied (object_at os h) ≡ true
 unfolding all_occupied member

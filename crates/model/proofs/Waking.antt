@@ -11,7 +11,7 @@ use lib.Dec.{eqb, ltb}
 use borrow.Author.Tests.{ltb-true, ltb-false, lt-ltb, le-ltb}
 use Rattle.model.specs.Basics.{member}
 use Rattle.model.specs.Objects.{Object, occupied}
-use Rattle.model.specs.Notions.{◌isIn◌, Quiet}
+use Rattle.model.specs.Notions.{◌is_in◌, Quiet}
 use Rattle.model.specs.Waits.{Wait, WaitPlace, State, with_objects, with_waits, object_at, Grant, attempt, servable, acquire_each, dequeue, oldest, named_by, concerned_by, Woken, none_woken, and_then, serve, try_to_serve, walk_queue, search_queue}
 use Rattle.model.proofs.Logic.{by_bool, by_option, is_some, clash, and_split, eqb_same}
 use Rattle.model.proofs.Acquiring.{signaled_mine, Less, acquire_each_less, acquire_each_occupied, attempt_signaled, servable_mono}
@@ -24,24 +24,24 @@ visit changed w s = cond (concerned_by changed w) (try_to_serve w s) (none_woken
 -- What the argument asks of the waits.
 pub record Consistent (s : State) : Type 0 where
   pub started : 0 < s.next
-  pub owners : (w : Wait) → w isIn s.waits → w.owner ≡ 0 → ⊥
-  pub low : (w : Wait) → w isIn s.waits → 0 < w.ticket
-  pub below : (w : Wait) → w isIn s.waits → w.ticket < s.next
+  pub owners : (w : Wait) → w is_in s.waits → w.owner ≡ 0 → ⊥
+  pub low : (w : Wait) → w is_in s.waits → 0 < w.ticket
+  pub below : (w : Wait) → w is_in s.waits → w.ticket < s.next
   pub distinct : Distinct s.waits
-  pub live : (w : Wait) → w isIn s.waits → (h : ℕ) → member h (named_by w) ≡ true → (eqb h 0 || occupied (object_at s.objects h)) ≡ true
+  pub live : (w : Wait) → w is_in s.waits → (h : ℕ) → member h (named_by w) ≡ true → (eqb h 0 || occupied (object_at s.objects h)) ≡ true
 
 -- No queued wait that named_by none of these objects could be served.
 abbrev pub Unaffected : List ℕ → State → Type 0
-Unaffected cs s = (w : Wait) → w isIn s.waits → concerned_by cs w ≡ false → servable s.objects w ≡ false
+Unaffected cs s = (w : Wait) → w is_in s.waits → concerned_by cs w ≡ false → servable s.objects w ≡ false
 
 abbrev pub after : Wait → Grant → State → State
 after w t s = with_waits (with_objects s (acquire_each w.owner s.objects t.handles)) (dequeue w.ticket s.waits)
 
-pub taken_less : (s : State) → Consistent s → (w : Wait) → w isIn s.waits → (t : Grant) → attempt s.objects w ≡ some t → Less (acquire_each w.owner s.objects t.handles) s.objects
+pub taken_less : (s : State) → Consistent s → (w : Wait) → w is_in s.waits → (t : Grant) → attempt s.objects w ≡ some t → Less (acquire_each w.owner s.objects t.handles) s.objects
 taken_less s g w m t e = acquire_each_less w.owner s.objects t.handles (g.owners w m)
     (λ h i. signaled_mine w.owner (object_at s.objects h) (attempt_signaled s.objects w t e h i))
 
-pub after_still : (s : State) → Consistent s → (w : Wait) → w isIn s.waits → (t : Grant) → attempt s.objects w ≡ some t
+pub after_still : (s : State) → Consistent s → (w : Wait) → w is_in s.waits → (t : Grant) → attempt s.objects w ≡ some t
     → (v : Wait) → servable s.objects v ≡ false → servable (acquire_each w.owner s.objects t.handles) v ≡ false
 after_still s g w m t e v n = servable_mono _ s.objects v (λ h i. taken_less s g w m t e v.owner h) n
 
@@ -85,7 +85,7 @@ abbrev pub each : Wait → Bool
 each w = true
 
 -- serving takes one wait off all_signaled count
-pub fewer : (f : Wait → Bool) (w : Wait) (ws : List WaitPlace) → w isIn ws → f w ≡ true → count f (dequeue w.ticket ws) < count f ws
+pub fewer : (f : Wait → Bool) (w : Wait) (ws : List WaitPlace) → w is_in ws → f w ≡ true → count f (dequeue w.ticket ws) < count f ws
 fewer f w ws m t = rw (count_dequeue f w.ticket ws) (count_lt (λ v. not (eqb v.ticket w.ticket) && f v) f ws
     (λ v k e. (and_split (not (eqb v.ticket w.ticket)) (f v) e).1) w m (rw (eqb_same w.ticket)) t)
 
@@ -93,21 +93,21 @@ kept : (f : Wait → Bool) (w : Wait) (ws : List WaitPlace) → count f (dequeue
 kept f w ws = rw (count_dequeue f w.ticket ws) (count_le (λ v. not (eqb v.ticket w.ticket) && f v) f ws
     (λ v k e. (and_split (not (eqb v.ticket w.ticket)) (f v) e).1))
 
-higher : (last : ℕ) (w : Wait) (ws : List WaitPlace) → w isIn ws → above last w ≡ true → count (above w.ticket) ws < count (above last) ws
+higher : (last : ℕ) (w : Wait) (ws : List WaitPlace) → w is_in ws → above last w ≡ true → count (above w.ticket) ws < count (above last) ws
 higher last w ws m t = count_lt (above w.ticket) (above last) ws
     (λ v k e. let a : last < w.ticket = ltb-true _ _ t in let b : w.ticket < v.ticket = ltb-true _ _ e in lt-ltb last v.ticket (omega arith))
     w m (le-ltb w.ticket w.ticket (le_refl _)) t
 
 -- the walk_queue has passed all tickets up to last
 abbrev VisitedTo : ℕ → State → Type 0
-VisitedTo last s = (w : Wait) → w isIn s.waits → w.ticket ≤ last → servable s.objects w ≡ false
+VisitedTo last s = (w : Wait) → w is_in s.waits → w.ticket ≤ last → servable s.objects w ≡ false
 
 visited_on : (last : ℕ) (s : State) → Consistent s → VisitedTo last s → (w : Wait) → Oldest (above last) s.waits w → servable s.objects w ≡ false → VisitedTo w.ticket s
 visited_on last s g p w q n v m l = by_bool (above last v)
     (λ t. let i : v ≡ w = g.distinct v w m q.stands (le_antisymm l (q.lowest v m t)) in rw i n)
     (λ f. p v m (ltb-false _ _ f))
 
-done : (last : ℕ) (s : State) → VisitedTo last s → ((w : Wait) → w isIn s.waits → above last w ≡ false) → Quiet s
+done : (last : ℕ) (s : State) → VisitedTo last s → ((w : Wait) → w is_in s.waits → above last w ≡ false) → Quiet s
 done last s p n w m = p w m (ltb-false _ _ (n w m))
 
 lowest_served : (last : ℕ) (s : State) → VisitedTo last s → (w : Wait) → Oldest (above last) s.waits w → servable s.objects w ≡ true → Oldest (servable s.objects) s.waits w
@@ -122,7 +122,7 @@ visited_after last s g p w q t e v m l = let k = dequeue_in _ _ v m in after_sti
     (λ a. absurd (k.1 (le_antisymm l (q.lowest v k.0 a))))
     (λ f. p v k.0 (ltb-false _ _ f)))
 
-settled_after : (cs : List ℕ) (s : State) → Consistent s → Unaffected cs s → (w : Wait) → w isIn s.waits → (t : Grant) → attempt s.objects w ≡ some t → Unaffected cs (after w t s)
+settled_after : (cs : List ℕ) (s : State) → Consistent s → Unaffected cs s → (w : Wait) → w is_in s.waits → (t : Grant) → attempt s.objects w ≡ some t → Unaffected cs (after w t s)
 settled_after cs s g d w m t e v k n = after_still s g w m t e v (d v (dequeue_in _ _ v k).0 n)
 
 pub walk_is_search : (n m : ℕ) (cs : List ℕ) (last : ℕ) (s : State) → Consistent s → Unaffected cs s → VisitedTo last s
@@ -171,12 +171,12 @@ walking_is_searching cs s g d = walk_is_search (length s.waits) (length s.waits)
     (λ w m l. absurd (let h : 0 < w.ticket = g.low w m in let z : ⊥ = omega arith in z)) (count_length _ _) (count_length _ _)
 
 -- what serving a queued wait keeps, a walk keeps
-pub walk_keeps : (P : State → Type 0) → ((s : State) (w : Wait) (t : Grant) → w isIn s.waits → attempt s.objects w ≡ some t → P s → P (after w t s))
+pub walk_keeps : (P : State → Type 0) → ((s : State) (w : Wait) (t : Grant) → w is_in s.waits → attempt s.objects w ≡ some t → P s → P (after w t s))
     → (n : ℕ) (changed : List ℕ) (last : ℕ) (s : State) → P s → P (walk_queue n changed last s).state
 unfolding walk_queue try_to_serve serve
 walk_keeps P k zero changed last s p = p
 walk_keeps P k (suc n) changed last s p = by_option (oldest (λ w. ltb last w.ticket) s.waits) (λ e. rw e p)
-    (λ w e. let m : w isIn s.waits = (oldest_some (λ w. ltb last w.ticket) s.waits w e).stands in by_bool (concerned_by changed w)
+    (λ w e. let m : w is_in s.waits = (oldest_some (λ w. ltb last w.ticket) s.waits w e).stands in by_bool (concerned_by changed w)
     (λ y. by_option (attempt s.objects w) (λ a. rw (e, y, a) (walk_keeps P k n changed w.ticket s p))
     (λ t a. rw (e, y, a) (walk_keeps P k n changed w.ticket (after w t s) (k s w t m a p))))
     (λ f. rw (e, f) (walk_keeps P k n changed w.ticket s p)))

@@ -11,7 +11,7 @@ use Rattle.model.specs.Sizes.{mutex_ceiling, never, wake_length}
 use Rattle.model.specs.Basics.{any_of, member, has_repeat, joined}
 use Rattle.model.specs.Objects.{Object, by_kind, signaled, acquired}
 use Rattle.model.specs.Waits.{Mode, any, all, State, initial, with_objects, object_at, put_at, lowest_signaled, all_signaled, look, attempt, acquire_each, any_abandoned, dequeue, oldest, concerned_by, Woken, none_woken, serve, try_to_serve, walk_queue, wake_by_walk}
-use Rattle.model.specs.Calls.{Operation, create, close, resetEvent, read, signal, wait, expire, cancel, snapshot, aSemaphore, aMutex, anEvent, unlock, Call, wake_lent, asks, least, lowest_empty, all_occupied, waits_full, enqueue, refusals, admits, end_each, change}
+use Rattle.model.specs.Calls.{Operation, create, close, reset_event, read, signal, wait, expire, cancel, snapshot, a_semaphore, a_mutex, an_event, unlock, Call, wake_lent, asks, least, lowest_empty, all_occupied, waits_full, enqueue, refusals, admits, end_each, change}
 use Rattle.model.specs.Steps.{Outcome, first_refusal, records, perform, library_step, run}
 
 abbrev calls : List Operation → List Call
@@ -28,7 +28,7 @@ wake_at_zero (h ∷ hs) s = cond (held (object_at s.objects h)) (none_woken s) (
 
 -- P9
 abbrev unlocked : List Call
-unlocked = calls (create aMutex 5 mutex_ceiling ∷ wait any (1 ∷ []) 5 0 0 0 never 0 ∷ signal (unlock 5) 1 ∷ [])
+unlocked = calls (create a_mutex 5 mutex_ceiling ∷ wait any (1 ∷ []) 5 0 0 0 never 0 ∷ signal (unlock 5) 1 ∷ [])
 
 abbrev woken : List (Outcome State) → ℕ
 woken os = length (joined (λ o. records o.reports) os)
@@ -45,7 +45,7 @@ take_while asking os (h ∷ hs) = let on = take_while asking (put_at os h (acqui
 abbrev kept : Operation → State → State
 kept (create k x y) s = s
 kept (close h) s = s
-kept (resetEvent h) s = s
+kept (reset_event h) s = s
 kept (read k h) s = s
 kept (signal how h) s = s
 kept (wait mode hs o f p a t now) s = with_objects s (take_while o s.objects hs)
@@ -59,7 +59,7 @@ keeps_part s c = let o = library_step s c in
 
 -- P1, then the semaphore is read
 abbrev queued_for_all : List Call
-queued_for_all = calls (create aSemaphore 1 2 ∷ create anEvent 0 1 ∷ wait all (1 ∷ 2 ∷ []) 7 0 0 0 never 0 ∷ read aSemaphore 1 ∷ [])
+queued_for_all = calls (create a_semaphore 1 2 ∷ create an_event 0 1 ∷ wait all (1 ∷ 2 ∷ []) 7 0 0 0 never 0 ∷ read a_semaphore 1 ∷ [])
 
 abbrev numbers : List (Outcome State) → List ℕ
 numbers os = joined (λ o. o.first ∷ []) os

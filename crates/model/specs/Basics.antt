@@ -4,24 +4,24 @@ use Rattle.std.proofs.Math.Option.{Option, none, some}
 
 -- THE ANSWERS (document 01, "What the caller hears")
 pub data Answer : Type 0 where
-  done invalid notOwner overflow ownerDead timedOut interrupted : Answer
-  noRoom ticketsSpent corrupt busy queued listShort notASnapshot : Answer
+  done invalid not_owner overflow owner_dead timed_out interrupted : Answer
+  no_room tickets_spent corrupt busy queued list_short not_a_snapshot : Answer
 
 abbrev pub number : Answer → ℕ
 number done = 0  -- "the call took effect"
 number invalid = 1  -- EINVAL: "bad argument, see each call"
-number notOwner = 2  -- EPERM: "owner doesn't hold the mutex"
+number not_owner = 2  -- EPERM: "owner doesn't hold the mutex"
 number overflow = 3  -- EOVERFLOW: "post past the maximum"
-number ownerDead = 4  -- EOWNERDEAD: "an abandoned mutex was acquired, or read"
-number timedOut = 5  -- ETIMEDOUT: "time was up"
+number owner_dead = 4  -- EOWNERDEAD: "an abandoned mutex was acquired, or read"
+number timed_out = 5  -- ETIMEDOUT: "time was up"
 number interrupted = 6  -- EINTR: "a queued wait was cancelled"
-number noRoom = 7  -- "no empty object or wait place"
-number ticketsSpent = 8  -- "next ticket is 2^64-1"
+number no_room = 7  -- "no empty object or wait place"
+number tickets_spent = 8  -- "next ticket is 2^64-1"
 number corrupt = 9  -- "damaged tables"
 number busy = 10  -- "closing an object that a queued wait names"
 number queued = 11  -- "the wait has a ticket"
-number listShort = 12  -- "wake list under 32 records, or picture buffer under 32,768 bytes" (5/13: 65,536)
-number notASnapshot = 13  -- 3/13: "Anything else is new answer 13" (reading a text)
+number list_short = 12  -- "wake list under 32 records, or picture buffer under 32,768 bytes" (5/13: 65,536)
+number not_a_snapshot = 13  -- 3/13: "Anything else is new answer 13" (reading a text)
 
 -- what an optional value is worth: b where there is none
 abbrev pub maybe {ℓ κ} : {A : Type ℓ} {B : Type κ} → Option A → B → (A → B) → B

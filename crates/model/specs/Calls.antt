@@ -1,8 +1,8 @@
 -- Every call: what it is lent, its refusals in order, and its change without the walk (document 01, "Calls").
 use Rattle.std.specs.Prelude.{Bool, true, false, not, ◌&&◌, ◌||◌, cond, List, [], ◌∷◌, ℕ, zero, suc, pred, ◌+◌, ◌<◌, length, eqb, ltb, leb}
 use Rattle.model.specs.Sizes.{max_listed, word32, word64, never, tickets_end, wake_length, snapshot_buffer}
-use Rattle.model.specs.Basics.{maybe, bit, any_of, has_repeat, All, Answer, number, done, invalid, notOwner}
-use Rattle.model.specs.Basics.{overflow, ownerDead, timedOut, interrupted, noRoom, ticketsSpent, busy, queued}
+use Rattle.model.specs.Basics.{maybe, bit, any_of, has_repeat, All, Answer, number, done, invalid, not_owner}
+use Rattle.model.specs.Basics.{overflow, owner_dead, timed_out, interrupted, no_room, tickets_spent, busy, queued}
 use Rattle.model.specs.Objects.{Object, empty, semaphore, mutex, event, by_kind, occupied, is_event, never_signaled}
 use Rattle.model.specs.Waits.{Mode, any, all, Wait, WaitPlace, free, waiting, State, with_objects, with_waits}
 use Rattle.model.specs.Waits.{with_next, object_at, put_object, attempt, servable, acquire_each, served_answer}
@@ -10,17 +10,17 @@ use Rattle.model.specs.Waits.{dequeue, oldest, any_waiting, concerned_by, Report
 use Rattle.model.specs.Snapshot.{snapshot_text}
 
 pub data Kind : Type 0 where
-  aSemaphore aMutex anEvent : Kind
+  a_semaphore a_mutex an_event : Kind
 
 -- the calls that change one object and wake: post (the addition), unlock and kill (the owner), set, pulse
 pub data Signal : Type 0 where
   post unlock kill : ℕ → Signal
-  setEvent pulseEvent : Signal
+  set_event pulse_event : Signal
 
 -- create: count and maximum; owner and count; signaled and manual
 pub data Operation : Type 0 where
   create : Kind → ℕ → ℕ → Operation
-  close resetEvent : (handle : ℕ) → Operation
+  close reset_event : (handle : ℕ) → Operation
   read : Kind → (handle : ℕ) → Operation
   signal : Signal → (handle : ℕ) → Operation
   wait : (mode : Mode) (list : List ℕ) (owner flags pad alert timeout time : ℕ) → Operation
@@ -57,7 +57,7 @@ asks op lent = record { operation = op; lent = lent }
 unfoldable pub least : Operation → ℕ × ℕ
 least (create k x y) = (0, 0)
 least (close h) = (0, 0)
-least (resetEvent h) = (0, 0)
+least (reset_event h) = (0, 0)
 least (read k h) = (0, 0)
 least (signal how h) = (wake_length, 0)
 least (wait mode hs o f p a timeout time) = (0, 0)
@@ -99,13 +99,13 @@ on_event x f = by_kind x wrong_kind (λ c m. wrong_kind) (λ o c a. wrong_kind) 
 
 -- reads: "Read mutex: abandoned answers 4 with zeros."
 abbrev pub read_rule : Kind → Object → Rule
-read_rule aSemaphore x = on_semaphore x (λ c m. rule [] done c m x)
-read_rule aMutex x = on_mutex x (λ o c a. cond a (rule [] ownerDead 0 0 x) (rule [] done o c x))
-read_rule anEvent x = on_event x (λ s m. rule [] done (bit s) (bit m) x)
+read_rule a_semaphore x = on_semaphore x (λ c m. rule [] done c m x)
+read_rule a_mutex x = on_mutex x (λ o c a. cond a (rule [] owner_dead 0 0 x) (rule [] done o c x))
+read_rule an_event x = on_event x (λ s m. rule [] done (bit s) (bit m) x)
 
 -- "Unlock: EINVAL for owner 0, EPERM for any owner but the holder"; "Kill: same two refusals"
 abbrev pub held_by : ℕ → ℕ → List Refusal
-held_by asking o = refusal invalid (eqb asking 0) ∷ refusal notOwner (not (eqb o asking)) ∷ []
+held_by asking o = refusal invalid (eqb asking 0) ∷ refusal not_owner (not (eqb o asking)) ∷ []
 
 -- "Post: previous count; EOVERFLOW if count plus addition, as whole numbers, exceeds the maximum. Adding 0 is allowed."
 -- Unlock: "previous count; count falls by one, owner 0 at zero". Kill: "mutex becomes unowned, count 0, abandoned".
@@ -116,8 +116,8 @@ signal_rule (post add) x = on_semaphore x
 signal_rule (unlock asking) x = on_mutex x
     (λ o c a. rule (held_by asking o) done c 0 (mutex (cond (eqb c 1) 0 o) (pred c) a))
 signal_rule (kill asking) x = on_mutex x (λ o c a. rule (held_by asking o) done 0 0 (mutex 0 0 true))
-signal_rule setEvent x = on_event x (λ s m. rule [] done (bit s) 0 (event true m))
-signal_rule pulseEvent x = on_event x (λ s m. rule [] done (bit s) 0 (event true m))
+signal_rule set_event x = on_event x (λ s m. rule [] done (bit s) 0 (event true m))
+signal_rule pulse_event x = on_event x (λ s m. rule [] done (bit s) 0 (event true m))
 
 abbrev pub reset_rule : Object → Rule
 reset_rule x = on_event x (λ s m. rule [] done (bit s) 0 (event false m))
@@ -127,20 +127,20 @@ abbrev pub clears_after : Signal → ℕ → ℕ
 clears_after (post add) h = 0
 clears_after (unlock o) h = 0
 clears_after (kill o) h = 0
-clears_after setEvent h = 0
-clears_after pulseEvent h = h
+clears_after set_event h = 0
+clears_after pulse_event h = h
 
 -- CREATING. "Create: EINVAL if count exceeds maximum" (4/13: or if that is 0); "for a mutex if exactly one of owner and
 -- count is 0. Event flags: nonzero means 1."
 abbrev pub bad_new : Kind → ℕ → ℕ → Bool
-bad_new aSemaphore c m = ltb m c || never_signaled m
-bad_new aMutex o c = not (eqb (bit (eqb o 0)) (bit (eqb c 0)))
-bad_new anEvent s m = false
+bad_new a_semaphore c m = ltb m c || never_signaled m
+bad_new a_mutex o c = not (eqb (bit (eqb o 0)) (bit (eqb c 0)))
+bad_new an_event s m = false
 
 abbrev pub new_object : Kind → ℕ → ℕ → Object
-new_object aSemaphore c m = semaphore c m
-new_object aMutex o c = mutex o c false
-new_object anEvent s m = event (not (eqb s 0)) (not (eqb m 0))
+new_object a_semaphore c m = semaphore c m
+new_object a_mutex o c = mutex o c false
+new_object an_event s m = event (not (eqb s 0)) (not (eqb m 0))
 
 -- "Creating takes the lowest empty object place": its handle, one past the last place where there is none.
 unfoldable pub lowest_empty : ℕ → List Object → ℕ
@@ -200,16 +200,16 @@ enqueue w (waiting v ∷ ws) = waiting v ∷ enqueue w ws
 -- monotonic, 1 real-time, else EINVAL)"; "Cancel: EINVAL if no queued wait has that ticket"
 unfoldable pub refusals : Operation → State → List Refusal
 refusals (create k x y) s =
-    refusal invalid (bad_new k x y) ∷ refusal noRoom (ltb (length s.objects) (new_handle s)) ∷ []
+    refusal invalid (bad_new k x y) ∷ refusal no_room (ltb (length s.objects) (new_handle s)) ∷ []
 refusals (close h) s = refusal invalid (not (occupied (object_at s.objects h)))
     ∷ refusal busy (any_waiting (concerned_by (h ∷ [])) s.waits) ∷ []
-refusals (resetEvent h) s = (reset_rule (object_at s.objects h)).refusals
+refusals (reset_event h) s = (reset_rule (object_at s.objects h)).refusals
 refusals (read k h) s = (read_rule k (object_at s.objects h)).refusals
 refusals (signal how h) s = (signal_rule how (object_at s.objects h)).refusals
 refusals (wait mode hs o f p a timeout time) s =
     let must = must_queue (new_wait mode hs o f a timeout s.next) time s in
     refusal invalid (any_of (wait_faults mode hs o f p a s.objects))
-    ∷ refusal noRoom (must && waits_full s.waits) ∷ refusal ticketsSpent (must && eqb s.next tickets_end) ∷ []
+    ∷ refusal no_room (must && waits_full s.waits) ∷ refusal tickets_spent (must && eqb s.next tickets_end) ∷ []
 refusals (expire clock time) s = refusal invalid (ltb 1 clock) ∷ []
 refusals (cancel ticket) s = refusal invalid (not (any_waiting (λ w. eqb w.ticket ticket) s.waits)) ∷ []
 refusals snapshot s = []
@@ -267,7 +267,7 @@ wakes r h k s = record {
 -- by one; nothing else spends one."
 unfoldable pub admits : Wait → ℕ → State → Change
 admits w time s = maybe (attempt s.objects w)
-    (cond (time_up w.timeout time) (answers (number timedOut) 0 0 s)
+    (cond (time_up w.timeout time) (answers (number timed_out) 0 0 s)
     (answers (number queued) 0 s.next (with_next (with_waits s (enqueue w s.waits)) (suc s.next))))
     (λ g. answers (served_answer s.objects g) g.index 0
     (with_objects s (acquire_each w.owner s.objects g.handles)))
@@ -276,7 +276,7 @@ admits w time s = maybe (attempt s.objects w)
 -- 2^64-1."
 abbrev pub ends : Wait → State → Woken
 ends w s = record {
-  reports = record { ticket = w.ticket; answer = number timedOut; index = 0 } ∷ [];
+  reports = record { ticket = w.ticket; answer = number timed_out; index = 0 } ∷ [];
   state = with_waits s (dequeue w.ticket s.waits);
 }
 
@@ -288,7 +288,7 @@ end_each (suc n) f s = maybe (oldest f s.waits) (none_woken s) (λ w. and_then (
 unfoldable pub change : Operation → State → Change
 change (create k x y) s = answers (number done) (new_handle s) 0 (put_object s (new_handle s) (new_object k x y))
 change (close h) s = answers (number done) 0 0 (put_object s h empty)
-change (resetEvent h) s = let r = reset_rule (object_at s.objects h) in
+change (reset_event h) s = let r = reset_rule (object_at s.objects h) in
     answers r.answer r.first r.second (put_object s h r.next)
 change (read k h) s = let r = read_rule k (object_at s.objects h) in answers r.answer r.first r.second s
 change (signal how h) s = wakes (signal_rule how (object_at s.objects h)) h (clears_after how h) s
@@ -303,13 +303,13 @@ change snapshot s = writes (length (snapshot_text s)) [] (snapshot_text s) s
 abbrev pub numbers : Operation → List ℕ × List ℕ
 numbers (create k x y) = (x ∷ y ∷ [], [])
 numbers (close h) = (h ∷ [], [])
-numbers (resetEvent h) = (h ∷ [], [])
+numbers (reset_event h) = (h ∷ [], [])
 numbers (read k h) = (h ∷ [], [])
 numbers (signal (post add) h) = (h ∷ add ∷ [], [])
 numbers (signal (unlock o) h) = (h ∷ o ∷ [], [])
 numbers (signal (kill o) h) = (h ∷ o ∷ [], [])
-numbers (signal setEvent h) = (h ∷ [], [])
-numbers (signal pulseEvent h) = (h ∷ [], [])
+numbers (signal set_event h) = (h ∷ [], [])
+numbers (signal pulse_event h) = (h ∷ [], [])
 numbers (wait mode hs o f p a timeout time) = (o ∷ f ∷ p ∷ a ∷ hs, timeout ∷ time ∷ [])
 numbers (expire c t) = (c ∷ [], t ∷ [])
 numbers (cancel t) = ([], t ∷ [])

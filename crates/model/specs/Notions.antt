@@ -1,12 +1,12 @@
 -- The notions in which the theorems speak of steps and histories.
 use Rattle.std.specs.Prelude.{◌≡◌, Bool, true, false, not, ◌||◌, cond, List, [], ◌∷◌, ◌⊎◌, ℕ, ◌≤◌, ◌<◌, length, get_or, eqb}
 use Rattle.std.proofs.Math.Option.{some}
-use Rattle.model.specs.Basics.{member, number, done, ownerDead, timedOut}
+use Rattle.model.specs.Basics.{member, number, done, owner_dead, timed_out}
 use Rattle.model.specs.Objects.{Object, by_kind, occupied, is_event, acquired}
 use Rattle.model.specs.Waits.{Mode, any, all, Wait, WaitPlace, free, waiting, State, object_at, Grant, attempt}
 use Rattle.model.specs.Waits.{servable, acquire_each, served_answer, Report}
-use Rattle.model.specs.Calls.{Operation, create, close, resetEvent, read, signal, wait, expire, cancel, snapshot}
-use Rattle.model.specs.Calls.{Kind, aSemaphore, aMutex, anEvent, Signal, post, unlock, kill, setEvent, pulseEvent}
+use Rattle.model.specs.Calls.{Operation, create, close, reset_event, read, signal, wait, expire, cancel, snapshot}
+use Rattle.model.specs.Calls.{Kind, a_semaphore, a_mutex, an_event, Signal, post, unlock, kill, set_event, pulse_event}
 use Rattle.model.specs.Calls.{Call, least, Refusal, all_occupied, new_wait}
 
 -- "Refusals are 1, 2, 3, 7, 8, 9, 10 and 12."
@@ -25,21 +25,21 @@ LongEnough c = let n = least c.operation in (n.0 ≤ length c.lent.wake) × (n.1
 -- "Wrong kind or empty or unknown handle: EINVAL everywhere." The call names an object that is not there, or not of the
 -- kind that it is for.
 abbrev pub of_kind : Kind → Object → Bool
-of_kind aSemaphore x = by_kind x false (λ c m. true) (λ o c a. false) (λ s m. false)
-of_kind aMutex x = by_kind x false (λ c m. false) (λ o c a. true) (λ s m. false)
-of_kind anEvent x = is_event x
+of_kind a_semaphore x = by_kind x false (λ c m. true) (λ o c a. false) (λ s m. false)
+of_kind a_mutex x = by_kind x false (λ c m. false) (λ o c a. true) (λ s m. false)
+of_kind an_event x = is_event x
 
 abbrev pub kind_for : Signal → Kind
-kind_for (post add) = aSemaphore
-kind_for (unlock o) = aMutex
-kind_for (kill o) = aMutex
-kind_for setEvent = anEvent
-kind_for pulseEvent = anEvent
+kind_for (post add) = a_semaphore
+kind_for (unlock o) = a_mutex
+kind_for (kill o) = a_mutex
+kind_for set_event = an_event
+kind_for pulse_event = an_event
 
 abbrev pub wrong_object : Operation → List Object → Bool
 wrong_object (create k x y) os = false
 wrong_object (close h) os = not (occupied (object_at os h))
-wrong_object (resetEvent h) os = not (is_event (object_at os h))
+wrong_object (reset_event h) os = not (is_event (object_at os h))
 wrong_object (read k h) os = not (of_kind k (object_at os h))
 wrong_object (signal how h) os = not (of_kind (kind_for how) (object_at os h))
 wrong_object (wait mode hs o f p a timeout time) os =
@@ -49,15 +49,15 @@ wrong_object (cancel t) os = false
 wrong_object snapshot os = false
 
 -- a wait stands in the queue
-infix 40 ◌isIn◌
-abbrev pub ◌isIn◌ : Wait → List WaitPlace → Type 0
-◌isIn◌ w [] = ⊥
-◌isIn◌ w (free ∷ ws) = w isIn ws
-◌isIn◌ w (waiting v ∷ ws) = (w ≡ v) ⊎ (w isIn ws)
+infix 40 ◌is_in◌
+abbrev pub ◌is_in◌ : Wait → List WaitPlace → Type 0
+◌is_in◌ w [] = ⊥
+◌is_in◌ w (free ∷ ws) = w is_in ws
+◌is_in◌ w (waiting v ∷ ws) = (w ≡ v) ⊎ (w is_in ws)
 
 -- no queued wait could be served
 abbrev pub Quiet : State → Type 0
-Quiet s = (w : Wait) → w isIn s.waits → servable s.objects w ≡ false
+Quiet s = (w : Wait) → w is_in s.waits → servable s.objects w ≡ false
 
 -- WHAT A CALL TOUCHES. The handles of the objects that a served wait took, read from its list and its answer's index
 abbrev pub taken_listed : Mode → List ℕ → ℕ → List ℕ
@@ -71,7 +71,7 @@ taken_by w i = cond (eqb i (length w.list)) (w.alert ∷ []) (taken_listed w.mod
 abbrev pub touched : Operation → ℕ → ℕ → List ℕ
 touched (create k x y) a h = h ∷ []
 touched (close h) a n = h ∷ []
-touched (resetEvent h) a n = h ∷ []
+touched (reset_event h) a n = h ∷ []
 touched (read k h) a n = []
 touched (signal how h) a n = h ∷ []
 touched (wait mode hs o f p al timeout time) a i =
@@ -92,13 +92,13 @@ Served w r os next = (g : Grant) × (attempt os w ≡ some g) × (r.answer ≡ s
     × (next ≡ acquire_each w.owner os g.handles)
 
 abbrev pub Ended : Wait → Report → List Object → List Object → Type 0
-Ended w r os next = (r.answer ≡ number timedOut) × (r.index ≡ 0) × (next ≡ os)
+Ended w r os next = (r.answer ≡ number timed_out) × (r.index ≡ 0) × (next ≡ os)
 
 -- one report after another: each of a wait of the queue, on the objects that the one before left, and P holds of it
 abbrev pub OneByOne : (Wait → Report → List Object → List Object → Type 0) → List WaitPlace → List Report
     → List Object → List Object → Type 0
 OneByOne P ws [] os end = end ≡ os
-OneByOne P ws (r ∷ rs) os end = (w : Wait) × (w isIn ws) × (w.ticket ≡ r.ticket)
+OneByOne P ws (r ∷ rs) os end = (w : Wait) × (w is_in ws) × (w.ticket ≡ r.ticket)
     × (next : List Object) × P w r os next × OneByOne P ws rs next end
 
 -- ALL OR NONE. The objects of these handles are the acquired ones, and no other object changed.
@@ -107,7 +107,7 @@ Took asking hs os next = (h : ℕ)
     → object_at next h ≡ cond (member h hs) (acquired asking (object_at os h)) (object_at os h)
 
 abbrev pub ServedNumber : ℕ → Type 0
-ServedNumber a = (a ≡ number done) ⊎ (a ≡ number ownerDead)
+ServedNumber a = (a ≡ number done) ⊎ (a ≡ number owner_dead)
 
 -- "A wait for all takes every object or none": the wait with its answer and index, the objects before and after.
 pub record AllOrNone (w : Wait) (a i : ℕ) (os next : List Object) : Type 0 where

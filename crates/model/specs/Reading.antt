@@ -7,7 +7,7 @@ use Rattle.model.specs.Sizes.{object_places, wait_places, max_listed, word32, ne
 use Rattle.model.specs.Basics.{maybe}
 use Rattle.model.specs.Objects.{Object, semaphore, mutex, event}
 use Rattle.model.specs.Waits.{any, all, Wait}
-use Rattle.model.specs.Calls.{Kind, aSemaphore, aMutex, anEvent}
+use Rattle.model.specs.Calls.{Kind, a_semaphore, a_mutex, an_event}
 use Rattle.model.specs.Snapshot.{ascii, line}
 
 -- What comes of reading a text: a value and the rest after it, or the text from the first line that is not as due.
@@ -68,16 +68,16 @@ abbrev pub flag_line : String → Reader Bool
 flag_line key = number_line key 0 1 >>= λ n. give (not (eqb n 0))
 
 unfoldable pub read_values : Kind → Reader Object
-read_values aSemaphore = do
+read_values a_semaphore = do
   c ← number32_line "count="
   m ← number32_line "max="
   give (semaphore c m)
-read_values aMutex = do
+read_values a_mutex = do
   o ← number32_line "owner="
   c ← number32_line "count="
   a ← flag_line "abandoned="
   give (mutex o c a)
-read_values anEvent = do
+read_values an_event = do
   s ← flag_line "signaled="
   m ← flag_line "manual="
   give (event s m)
@@ -86,7 +86,7 @@ read_values anEvent = do
 unfoldable pub read_object : Reader (ℕ × Object)
 read_object = do
   h ← number_line "handle=" 1 object_places
-  k ← word_line (("kind=sem\n", aSemaphore) ∷ ("kind=mutex\n", aMutex) ∷ ("kind=event\n", anEvent) ∷ [])
+  k ← word_line (("kind=sem\n", a_semaphore) ∷ ("kind=mutex\n", a_mutex) ∷ ("kind=event\n", an_event) ∷ [])
   x ← read_values k
   give (h, x)
 

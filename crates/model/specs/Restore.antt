@@ -1,7 +1,7 @@
 -- Which texts are accepted, what state they show, the call, and histories with readings in them (3/13).
 use Rattle.std.specs.Prelude.{◌≡◌, Bool, not, cond, List, [], ◌∷◌, ◌++◌, map, ◌↔◌, ℕ, ◌-◌, length, replicate, eqb}
 use Rattle.model.specs.Sizes.{object_places, wait_places}
-use Rattle.model.specs.Basics.{all_of, number, done, corrupt, notASnapshot}
+use Rattle.model.specs.Basics.{all_of, number, done, corrupt, not_a_snapshot}
 use Rattle.model.specs.Objects.{Object, empty}
 use Rattle.model.specs.Waits.{Wait, WaitPlace, free, waiting, State, initial, with_waits, put_at, servable}
 use Rattle.model.specs.Waits.{any_waiting}
@@ -9,7 +9,7 @@ use Rattle.model.specs.Calls.{nothing_lent, Call, WithinWidths}
 use Rattle.model.specs.Layout.{table_length, encode, valid_state, same_cells}
 use Rattle.model.specs.Snapshot.{queue_from, snapshot_text}
 use Rattle.model.specs.Steps.{Outcome, unaltered, holding, table_step, reference_step, make_tables}
-use Rattle.model.specs.Notions.{◌isIn◌}
+use Rattle.model.specs.Notions.{◌is_in◌}
 use Rattle.model.specs.Reading.{by_read, Lines, read_snapshot}
 
 -- "Objects return to their places; waits fill the wait places by ticket."
@@ -54,7 +54,7 @@ by_restored (refused offset) a r = r offset
 -- THE CALL. "Of the lent tables only the lengths matter, else 9." "new answer 13, tables unaltered, with the offset"
 abbrev pub unread : {Held : Type 0} → ℕ → Held → Outcome Held
 unread offset h =
-    record { answer = number notASnapshot; first = offset; second = 0; reports = []; lent = nothing_lent; held = h }
+    record { answer = number not_a_snapshot; first = offset; second = 0; reports = []; lent = nothing_lent; held = h }
 
 unfoldable pub restore_tables : List ℕ → List ℕ → Outcome (List ℕ)
 restore_tables t text = cond (eqb (length t) table_length)
@@ -72,7 +72,7 @@ placed s = with_waits s (lowest_places (queue s))
 pub record SameButPlaces (a b : State) : Type 0 where
   pub objects : a.objects ≡ b.objects
   pub next : a.next ≡ b.next
-  pub waits : (w : Wait) → w isIn a.waits ↔ w isIn b.waits
+  pub waits : (w : Wait) → w is_in a.waits ↔ w is_in b.waits
 
 -- ROWS OF HISTORIES: makings ("Making starts a new history"), readings and calls. "Demand 3's history may then begin at
 -- an accepted picture, and its reckoning with what that text shows, so placed; a refused reading is a call in it that

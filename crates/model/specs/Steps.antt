@@ -1,7 +1,7 @@
 -- A call's outcome, by the library and by the reference (01: the fresh reckoning); making; histories.
 use Rattle.std.specs.Prelude.{◌||◌, cond, List, [], ◌∷◌, ◌++◌, ℕ, length, eqb, ltb}
 use Rattle.std.proofs.Math.Option.{Option, none, some}
-use Rattle.model.specs.Basics.{maybe, overwrite, number, done, corrupt, listShort}
+use Rattle.model.specs.Basics.{maybe, overwrite, number, done, corrupt, list_short}
 use Rattle.model.specs.Objects.{cleared}
 use Rattle.model.specs.Waits.{all, State, initial, object_at, put_object, Report, Woken, wake_by_walk, wake_by_search}
 use Rattle.model.specs.Calls.{Operation, read, wait, Lent, lend, nothing_lent, Call, least, Refusal, refusal}
@@ -25,7 +25,7 @@ unaltered n l h = record { answer = n; first = 0; second = 0; reports = []; lent
 -- "Order: 9" (`table_step`) ", 12, 1, then 2, 3, 7, 10"
 abbrev pub conditions_on : Operation → Lent → State → List Refusal
 conditions_on op l s = let n = least op in
-    refusal listShort (ltb (length l.wake) n.0 || ltb (length l.buffer) n.1) ∷ refusals op s
+    refusal list_short (ltb (length l.wake) n.0 || ltb (length l.buffer) n.1) ∷ refusals op s
 
 abbrev pub conditions : Call → State → List Refusal
 conditions c s = conditions_on c.operation c.lent s
@@ -41,7 +41,7 @@ records (r ∷ rs) = r.ticket ∷ r.answer ∷ r.index ∷ records rs
 
 -- "A pulse then clears its event."
 abbrev pub completed : (List ℕ → State → Woken) → Lent → Change → Outcome State
-completed wakeUp l d = let v = wakeUp d.changed d.state in let rs = d.reports ++ v.reports in record {
+completed wake_up l d = let v = wake_up d.changed d.state in let rs = d.reports ++ v.reports in record {
   answer = d.answer;
   first = d.first;
   second = d.second;
@@ -51,11 +51,11 @@ completed wakeUp l d = let v = wakeUp d.changed d.state in let rs = d.reports ++
 }
 
 abbrev pub perform_on : (List ℕ → State → Woken) → State → Operation → Lent → Outcome State
-perform_on wakeUp s op l =
-    maybe (first_refusal (conditions_on op l s)) (completed wakeUp l (change op s)) (λ n. unaltered n l s)
+perform_on wake_up s op l =
+    maybe (first_refusal (conditions_on op l s)) (completed wake_up l (change op s)) (λ n. unaltered n l s)
 
 abbrev pub perform : (List ℕ → State → Woken) → State → Call → Outcome State
-perform wakeUp s c = perform_on wakeUp s c.operation c.lent
+perform wake_up s c = perform_on wake_up s c.operation c.lent
 
 -- THE LIBRARY on states, and THE REFERENCE
 unfoldable pub library_step : State → Call → Outcome State

@@ -2,7 +2,7 @@
 use Rattle.std.specs.Prelude.{Bool, true, false, ◌&&◌, ◌||◌, cond, List, [], ◌∷◌, ◌++◌, ℕ, zero, suc, length, get_or, set, replicate, eqb, ltb}
 use Rattle.std.proofs.Math.Option.{Option, none, some}
 use Rattle.model.specs.Sizes.{object_places, wait_places}
-use Rattle.model.specs.Basics.{maybe, member, number, done, ownerDead}
+use Rattle.model.specs.Basics.{maybe, member, number, done, owner_dead}
 use Rattle.model.specs.Objects.{Object, empty, signaled, acquired, abandoned}
 
 pub data Mode : Type 0 where
@@ -96,7 +96,7 @@ any_abandoned os (h ∷ hs) = abandoned (object_at os h) || any_abandoned os hs
 
 -- "4 EOWNERDEAD: an abandoned mutex was acquired .. acquired all the same", else 0
 abbrev pub served_answer : List Object → Grant → ℕ
-served_answer os g = cond (any_abandoned os g.handles) (number ownerDead) (number done)
+served_answer os g = cond (any_abandoned os g.handles) (number owner_dead) (number done)
 
 -- The wait with this ticket leaves the queue.
 unfoldable pub dequeue : ℕ → List WaitPlace → List WaitPlace

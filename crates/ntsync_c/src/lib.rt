@@ -1,8 +1,8 @@
 // The C interface (include/ntsync.h): each public call under its C name, with the same equation. A slice is a pointer
 // and its number of elements.
 ghost use Rattle.std.specs.Prelude.{◌≡◌, [], ◌∷◌};
-ghost use Rattle.model.specs.Calls.{create, close, resetEvent, read, signal, cancel, snapshot, wait, expire};
-ghost use Rattle.model.specs.Calls.{post, unlock, kill, setEvent, pulseEvent, aSemaphore, aMutex, anEvent};
+ghost use Rattle.model.specs.Calls.{create, close, reset_event, read, signal, cancel, snapshot, wait, expire};
+ghost use Rattle.model.specs.Calls.{post, unlock, kill, set_event, pulse_event, a_semaphore, a_mutex, an_event};
 ghost use Rattle.model.specs.Calls.{nothing_lent, wake_lent, buffer_lent, asks};
 ghost use Rattle.model.specs.Steps.{table_step, make_tables, seen, sees};
 ghost use Rattle.model.specs.Restore.{restore_tables};
@@ -31,7 +31,7 @@ pub extern "C" fn ntsync_init(tables: &mut [u64]) -> u32
 
 #[unsafe(no_mangle)]
 pub extern "C" fn ntsync_create_sem(tables: &mut [u64], count: u32, max: u32) -> Created
-    ensures { seen (table_step tables.old (asks (create aSemaphore count max) nothing_lent))
+    ensures { seen (table_step tables.old (asks (create a_semaphore count max) nothing_lent))
         ≡ sees (result.answer ∷ result.handle ∷ 0 ∷ 0 ∷ []) nothing_lent tables.new }
 {
     ntsync::create_sem(tables, count, max)
@@ -39,7 +39,7 @@ pub extern "C" fn ntsync_create_sem(tables: &mut [u64], count: u32, max: u32) ->
 
 #[unsafe(no_mangle)]
 pub extern "C" fn ntsync_create_mutex(tables: &mut [u64], owner: u32, count: u32) -> Created
-    ensures { seen (table_step tables.old (asks (create aMutex owner count) nothing_lent))
+    ensures { seen (table_step tables.old (asks (create a_mutex owner count) nothing_lent))
         ≡ sees (result.answer ∷ result.handle ∷ 0 ∷ 0 ∷ []) nothing_lent tables.new }
 {
     ntsync::create_mutex(tables, owner, count)
@@ -47,7 +47,7 @@ pub extern "C" fn ntsync_create_mutex(tables: &mut [u64], owner: u32, count: u32
 
 #[unsafe(no_mangle)]
 pub extern "C" fn ntsync_create_event(tables: &mut [u64], signaled: u32, manual: u32) -> Created
-    ensures { seen (table_step tables.old (asks (create anEvent signaled manual) nothing_lent))
+    ensures { seen (table_step tables.old (asks (create an_event signaled manual) nothing_lent))
         ≡ sees (result.answer ∷ result.handle ∷ 0 ∷ 0 ∷ []) nothing_lent tables.new }
 {
     ntsync::create_event(tables, signaled, manual)
@@ -55,7 +55,7 @@ pub extern "C" fn ntsync_create_event(tables: &mut [u64], signaled: u32, manual:
 
 #[unsafe(no_mangle)]
 pub extern "C" fn ntsync_read_sem(tables: &[u64], handle: u32) -> SemaphoreState
-    ensures { seen (table_step tables.now (asks (read aSemaphore handle) nothing_lent))
+    ensures { seen (table_step tables.now (asks (read a_semaphore handle) nothing_lent))
         ≡ sees (result.answer ∷ result.count ∷ result.max ∷ 0 ∷ []) nothing_lent tables.now }
 {
     ntsync::read_sem(tables, handle)
@@ -63,7 +63,7 @@ pub extern "C" fn ntsync_read_sem(tables: &[u64], handle: u32) -> SemaphoreState
 
 #[unsafe(no_mangle)]
 pub extern "C" fn ntsync_read_mutex(tables: &[u64], handle: u32) -> MutexState
-    ensures { seen (table_step tables.now (asks (read aMutex handle) nothing_lent))
+    ensures { seen (table_step tables.now (asks (read a_mutex handle) nothing_lent))
         ≡ sees (result.answer ∷ result.owner ∷ result.count ∷ 0 ∷ []) nothing_lent tables.now }
 {
     ntsync::read_mutex(tables, handle)
@@ -71,7 +71,7 @@ pub extern "C" fn ntsync_read_mutex(tables: &[u64], handle: u32) -> MutexState
 
 #[unsafe(no_mangle)]
 pub extern "C" fn ntsync_read_event(tables: &[u64], handle: u32) -> EventState
-    ensures { seen (table_step tables.now (asks (read anEvent handle) nothing_lent))
+    ensures { seen (table_step tables.now (asks (read an_event handle) nothing_lent))
         ≡ sees (result.answer ∷ result.signaled ∷ result.manual ∷ 0 ∷ []) nothing_lent tables.now }
 {
     ntsync::read_event(tables, handle)
@@ -87,7 +87,7 @@ pub extern "C" fn ntsync_close(tables: &mut [u64], handle: u32) -> u32
 
 #[unsafe(no_mangle)]
 pub extern "C" fn ntsync_reset(tables: &mut [u64], handle: u32) -> Changed
-    ensures { seen (table_step tables.old (asks (resetEvent handle) nothing_lent))
+    ensures { seen (table_step tables.old (asks (reset_event handle) nothing_lent))
         ≡ sees (result.answer ∷ result.previous ∷ 0 ∷ result.woken ∷ []) nothing_lent tables.new }
 {
     ntsync::reset(tables, handle)
@@ -182,7 +182,7 @@ pub extern "C" fn ntsync_kill_owner(
 #[unsafe(no_mangle)]
 pub extern "C" fn ntsync_set(tables: &mut [u64], wake: &mut [u64], handle: u32) -> Changed
     ensures { seen (table_step tables.old
-        (asks (signal setEvent handle) (wake_lent wake.old)))
+        (asks (signal set_event handle) (wake_lent wake.old)))
         ≡ sees (result.answer ∷ result.previous ∷ 0 ∷ result.woken ∷ []) (wake_lent wake.new) tables.new }
 {
     ntsync::set(tables, wake, handle)
@@ -191,7 +191,7 @@ pub extern "C" fn ntsync_set(tables: &mut [u64], wake: &mut [u64], handle: u32) 
 #[unsafe(no_mangle)]
 pub extern "C" fn ntsync_pulse(tables: &mut [u64], wake: &mut [u64], handle: u32) -> Changed
     ensures { seen (table_step tables.old
-        (asks (signal pulseEvent handle) (wake_lent wake.old)))
+        (asks (signal pulse_event handle) (wake_lent wake.old)))
         ≡ sees (result.answer ∷ result.previous ∷ 0 ∷ result.woken ∷ []) (wake_lent wake.new) tables.new }
 {
     ntsync::pulse(tables, wake, handle)

@@ -1,6 +1,6 @@
 // The public calls that change and wake nobody: closing an object, resetting an event, cancelling a wait.
 ghost use Rattle.std.specs.Prelude.{◌≡◌, [], ◌∷◌};
-ghost use Rattle.model.specs.Calls.{close, resetEvent, cancel, nothing_lent, asks};
+ghost use Rattle.model.specs.Calls.{close, reset_event, cancel, nothing_lent, asks};
 ghost use Rattle.model.specs.Steps.{table_step, seen, sees};
 
 use ntsync_guard::CORRUPT;
@@ -18,7 +18,7 @@ pub fn close(tables: &mut [u64], handle: u32) -> u32
 }
 
 pub fn reset(tables: &mut [u64], handle: u32) -> Changed
-    ensures { seen (table_step tables.old (asks (resetEvent handle) nothing_lent))
+    ensures { seen (table_step tables.old (asks (reset_event handle) nothing_lent))
         ≡ sees (result.answer ∷ result.previous ∷ 0 ∷ result.woken ∷ []) nothing_lent tables.new }
 {
     let corrupt = !validity::valid(tables);

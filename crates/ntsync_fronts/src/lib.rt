@@ -1,7 +1,7 @@
 // The calls that wake once more, each handing out the filled front of the caller's own wake list, empty after a
 // refusal; `result` gets the answer, the number handed back and the number of records.
 ghost use Rattle.std.specs.Prelude.{◌≡◌, length, take, ◌*◌, ◌≤◌};
-ghost use Rattle.model.specs.Calls.{signal, expire, post, unlock, kill, setEvent, pulseEvent, wake_lent, asks};
+ghost use Rattle.model.specs.Calls.{signal, expire, post, unlock, kill, set_event, pulse_event, wake_lent, asks};
 ghost use Rattle.model.specs.Steps.{table_step, handed, hands};
 
 fn front<'a>(wake: &'a mut [u64], woken: u32) -> &'a mut [u64]
@@ -67,7 +67,7 @@ pub fn set_woken<'a>(
     handle: u32,
 ) -> &'a mut [u64]
     ensures { (handed (table_step tables.old
-        (asks (signal setEvent handle) (wake_lent wake.old)))
+        (asks (signal set_event handle) (wake_lent wake.old)))
         ≡ hands res.new result.now tables.new) × (result.ref_ptr ≡ wake.entry.ref_ptr) }
 {
     let r = ntsync_signals::set(tables, wake, handle);
@@ -82,7 +82,7 @@ pub fn pulse_woken<'a>(
     handle: u32,
 ) -> &'a mut [u64]
     ensures { (handed (table_step tables.old
-        (asks (signal pulseEvent handle) (wake_lent wake.old)))
+        (asks (signal pulse_event handle) (wake_lent wake.old)))
         ≡ hands res.new result.now tables.new) × (result.ref_ptr ≡ wake.entry.ref_ptr) }
 {
     let r = ntsync_signals::pulse(tables, wake, handle);

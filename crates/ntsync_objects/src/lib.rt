@@ -1,6 +1,6 @@
 // The public calls that make: tables, and objects in them.
 ghost use Rattle.std.specs.Prelude.{◌≡◌, [], ◌∷◌, not};
-ghost use Rattle.model.specs.Calls.{create, aSemaphore, aMutex, anEvent, nothing_lent, asks};
+ghost use Rattle.model.specs.Calls.{create, a_semaphore, a_mutex, an_event, nothing_lent, asks};
 ghost use Rattle.model.specs.Steps.{table_step, make_tables, seen, sees};
 ghost use Rattle.cells.specs.Calls.{answered, create_cells, guarded};
 ghost use Rattle.kinds.specs.Values.{cells_of};
@@ -44,7 +44,7 @@ fn place(tables: &mut [u64], new: Creation) -> Numbered
 }
 
 pub fn create_sem(tables: &mut [u64], count: u32, max: u32) -> Created
-    ensures { seen (table_step tables.old (asks (create aSemaphore count max) nothing_lent))
+    ensures { seen (table_step tables.old (asks (create a_semaphore count max) nothing_lent))
         ≡ sees (result.answer ∷ result.handle ∷ 0 ∷ 0 ∷ []) nothing_lent tables.new }
 {
     let new = Semaphore::create(count, max);
@@ -56,7 +56,7 @@ pub fn create_sem(tables: &mut [u64], count: u32, max: u32) -> Created
 }
 
 pub fn create_mutex(tables: &mut [u64], owner: u32, count: u32) -> Created
-    ensures { seen (table_step tables.old (asks (create aMutex owner count) nothing_lent))
+    ensures { seen (table_step tables.old (asks (create a_mutex owner count) nothing_lent))
         ≡ sees (result.answer ∷ result.handle ∷ 0 ∷ 0 ∷ []) nothing_lent tables.new }
 {
     let new = Mutex::create(owner, count);
@@ -68,7 +68,7 @@ pub fn create_mutex(tables: &mut [u64], owner: u32, count: u32) -> Created
 }
 
 pub fn create_event(tables: &mut [u64], signaled: u32, manual: u32) -> Created
-    ensures { seen (table_step tables.old (asks (create anEvent signaled manual) nothing_lent))
+    ensures { seen (table_step tables.old (asks (create an_event signaled manual) nothing_lent))
         ≡ sees (result.answer ∷ result.handle ∷ 0 ∷ 0 ∷ []) nothing_lent tables.new }
 {
     let new = Event::create(signaled, manual);

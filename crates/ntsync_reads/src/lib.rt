@@ -1,6 +1,6 @@
 // The public reads: an object's numbers, by its kind.
 ghost use Rattle.std.specs.Prelude.{◌≡◌, [], ◌∷◌};
-ghost use Rattle.model.specs.Calls.{read, aSemaphore, aMutex, anEvent, nothing_lent, asks};
+ghost use Rattle.model.specs.Calls.{read, a_semaphore, a_mutex, an_event, nothing_lent, asks};
 ghost use Rattle.model.specs.Steps.{table_step, seen, sees};
 
 use ntsync_guard::CORRUPT;
@@ -30,7 +30,7 @@ pub struct EventState {
 }
 
 pub fn read_sem(tables: &[u64], handle: u32) -> SemaphoreState
-    ensures { seen (table_step tables.now (asks (read aSemaphore handle) nothing_lent))
+    ensures { seen (table_step tables.now (asks (read a_semaphore handle) nothing_lent))
         ≡ sees (result.answer ∷ result.count ∷ result.max ∷ 0 ∷ []) nothing_lent tables.now }
 {
     let corrupt = !validity::valid(tables);
@@ -50,7 +50,7 @@ pub fn read_sem(tables: &[u64], handle: u32) -> SemaphoreState
 }
 
 pub fn read_mutex(tables: &[u64], handle: u32) -> MutexState
-    ensures { seen (table_step tables.now (asks (read aMutex handle) nothing_lent))
+    ensures { seen (table_step tables.now (asks (read a_mutex handle) nothing_lent))
         ≡ sees (result.answer ∷ result.owner ∷ result.count ∷ 0 ∷ []) nothing_lent tables.now }
 {
     let corrupt = !validity::valid(tables);
@@ -70,7 +70,7 @@ pub fn read_mutex(tables: &[u64], handle: u32) -> MutexState
 }
 
 pub fn read_event(tables: &[u64], handle: u32) -> EventState
-    ensures { seen (table_step tables.now (asks (read anEvent handle) nothing_lent))
+    ensures { seen (table_step tables.now (asks (read an_event handle) nothing_lent))
         ≡ sees (result.answer ∷ result.signaled ∷ result.manual ∷ 0 ∷ []) nothing_lent tables.now }
 {
     let corrupt = !validity::valid(tables);

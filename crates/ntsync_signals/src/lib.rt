@@ -1,6 +1,6 @@
 // The public calls that wake. Each tests tables and wake list (`refused`) before its own work.
 ghost use Rattle.std.specs.Prelude.{◌≡◌, [], ◌∷◌};
-ghost use Rattle.model.specs.Calls.{signal, expire, post, unlock, kill, setEvent, pulseEvent, wake_lent, asks};
+ghost use Rattle.model.specs.Calls.{signal, expire, post, unlock, kill, set_event, pulse_event, wake_lent, asks};
 ghost use Rattle.model.specs.Steps.{table_step, seen, sees};
 
 use ntsync_guard::refused;
@@ -56,7 +56,7 @@ pub fn kill_owner(tables: &mut [u64], wake: &mut [u64], handle: u32, owner: u32)
 
 pub fn set(tables: &mut [u64], wake: &mut [u64], handle: u32) -> Changed
     ensures { seen (table_step tables.old
-        (asks (signal setEvent handle) (wake_lent wake.old)))
+        (asks (signal set_event handle) (wake_lent wake.old)))
         ≡ sees (result.answer ∷ result.previous ∷ 0 ∷ result.woken ∷ []) (wake_lent wake.new) tables.new }
 {
     let answer = refused(tables, wake);
@@ -72,7 +72,7 @@ pub fn set(tables: &mut [u64], wake: &mut [u64], handle: u32) -> Changed
 
 pub fn pulse(tables: &mut [u64], wake: &mut [u64], handle: u32) -> Changed
     ensures { seen (table_step tables.old
-        (asks (signal pulseEvent handle) (wake_lent wake.old)))
+        (asks (signal pulse_event handle) (wake_lent wake.old)))
         ≡ sees (result.answer ∷ result.previous ∷ 0 ∷ result.woken ∷ []) (wake_lent wake.new) tables.new }
 {
     let answer = refused(tables, wake);

@@ -4,7 +4,7 @@ use Prim.Native.String.{String}
 use Rattle.model.specs.Sizes.{max_listed}
 use Rattle.model.specs.Objects.{Object}
 use Rattle.model.specs.Waits.{Mode, any, all, Wait}
-use Rattle.model.specs.Calls.{Kind, aSemaphore, aMutex, anEvent}
+use Rattle.model.specs.Calls.{Kind, a_semaphore, a_mutex, an_event}
 use Rattle.model.specs.Layout.{object_of, mode_cell}
 use Rattle.model.specs.Reading.{Read, good, bad, times, read_values, read_object, read_wait, Lines, read_snapshot}
 use Rattle.model.specs.RestoreTests.{rising, handles, tickets, in_order}
@@ -20,10 +20,10 @@ use Rattle.reader.specs.declared.Parsed.{Parsed}
 
 -- the words of a kind, and the kind of a number
 abbrev pub kind_words : List (String × Kind)
-kind_words = ("kind=sem\n", aSemaphore) ∷ ("kind=mutex\n", aMutex) ∷ ("kind=event\n", anEvent) ∷ []
+kind_words = ("kind=sem\n", a_semaphore) ∷ ("kind=mutex\n", a_mutex) ∷ ("kind=event\n", an_event) ∷ []
 
 abbrev pub kind_of : ℕ → Kind
-kind_of n = cond (eqb n 1) aSemaphore (cond (eqb n 2) aMutex anEvent)
+kind_of n = cond (eqb n 1) a_semaphore (cond (eqb n 2) a_mutex an_event)
 
 abbrev pub mode_words : List (String × Mode)
 mode_words = ("mode=any\n", any) ∷ ("mode=all\n", all) ∷ []

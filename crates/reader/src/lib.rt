@@ -1,7 +1,7 @@
 // A snapshot's lines read back, at a position of a lent text, and stored into tables as they are read.
 ghost use Rattle.std.specs.Prelude.{◌≡◌, true, false, ◌≤◌, length, drop, take};
 ghost use Rattle.model.specs.Sizes.{object_places, wait_places, max_listed};
-ghost use Rattle.model.specs.Calls.{aSemaphore, aMutex, anEvent};
+ghost use Rattle.model.specs.Calls.{a_semaphore, a_mutex, an_event};
 ghost use Rattle.model.specs.Layout.{table_length};
 ghost use Rattle.model.specs.Reading.{times, number_line, word_line};
 ghost use Rattle.lines.specs.Outcome.{Outcome};
@@ -47,7 +47,7 @@ fn no_values(at: usize) -> Values
 
 fn semaphore_values(text: &[u8], at: usize) -> Values
     requires { at ≤ length text.now }
-    ensures { ReadValues text.now at aSemaphore 1 result }
+    ensures { ReadValues text.now at a_semaphore 1 result }
 {
     let c = number_line(text, at, b"count=", 0, MAX_32);
     if !c.ok {
@@ -95,7 +95,7 @@ pub fn read_list(text: &[u8], at: usize, n: usize, list: &mut [u64]) -> Line
 
 fn mutex_values(text: &[u8], at: usize) -> Values
     requires { at ≤ length text.now }
-    ensures { ReadValues text.now at aMutex 2 result }
+    ensures { ReadValues text.now at a_mutex 2 result }
 {
     let o = number_line(text, at, b"owner=", 0, MAX_32);
     if !o.ok {
@@ -117,7 +117,7 @@ fn mutex_values(text: &[u8], at: usize) -> Values
 
 fn event_values(text: &[u8], at: usize) -> Values
     requires { at ≤ length text.now }
-    ensures { ReadValues text.now at anEvent 3 result }
+    ensures { ReadValues text.now at an_event 3 result }
 {
     let s = number_line(text, at, b"signaled=", 0, 1);
     if !s.ok {

@@ -14,7 +14,7 @@ use Rattle.model.specs.Calls.{repeats}
 use Rattle.model.specs.Layout.{mode_cell, encode}
 use Rattle.model.specs.Sizes.{object_places, wait_places}
 use Rattle.model.specs.Objects.{abandoned, signaled}
-use Rattle.model.specs.Notions.{◌isIn◌}
+use Rattle.model.specs.Notions.{◌is_in◌}
 use Rattle.model.specs.Waits.{Mode, any, all, Wait, free, waiting, State, with_objects, object_at, Grant, lowest_signaled, all_signaled, look, attempt, acquire_each, any_abandoned}
 use Rattle.model.proofs.Logic.{by_bool, ◌implies◌, or_split, passed}
 use Rattle.model.proofs.Acquiring.{all_signaled_lem}
@@ -40,13 +40,13 @@ module _ (s : State) (full : length s.objects ≡ object_places) (w : Wait) wher
   alert_is = rw (signaled_at_lem s full w.owner w.alert) (by_bool (signaled w.owner (object_at s.objects w.alert)) (λ t. rw t (one_is w.alert (length w.list) t)) (λ f. rw f))
 
   -- what the alert is worth after a failed look
-  abbrev afterLook : Option Grant → Tried
-  afterLook r = maybe (maybe r (cond (signaled w.owner (object_at s.objects w.alert)) (some (grant w.alert (length w.list))) none) (λ g. some g)) (missed (encode s)) (granted s w)
+  abbrev after_look : Option Grant → Tried
+  after_look r = maybe (maybe r (cond (signaled w.owner (object_at s.objects w.alert)) (some (grant w.alert (length w.list))) none) (λ g. some g)) (missed (encode s)) (granted s w)
 
-  missed_look : (r : Option Grant) → r ≡ none → by_alert (encode s) w.owner w.alert (length w.list) ≡ afterLook r
+  missed_look : (r : Option Grant) → r ≡ none → by_alert (encode s) w.owner w.alert (length w.list) ≡ after_look r
   missed_look r e = rw (e, alert_is) (by_bool (signaled w.owner (object_at s.objects w.alert)) (λ t. rw t) (λ f. rw f))
 
-  any_is : try_any (encode s) w.owner w.alert w.list ≡ afterLook (look any w.owner s.objects w.list)
+  any_is : try_any (encode s) w.owner w.alert w.list ≡ after_look (look any w.owner s.objects w.list)
   unfolding try_any look_any look
   any_is =
       let f : ℕ → Bool = λ j. signaled w.owner (object_at s.objects (get_or w.list j 0)) in
@@ -59,7 +59,7 @@ module _ (s : State) (full : length s.objects ≡ object_places) (w : Wait) wher
       (λ t. rw t (one_is (get_or w.list i 0) i (r.found (let b : i < length w.list = ltb-true _ _ t in omega arith))))
       (λ n. rw n (missed_look none refl)))
 
-  all_is : has_repeat w.list ≡ false → try_all (encode s) w.owner w.alert w.list ≡ afterLook (look all w.owner s.objects w.list)
+  all_is : has_repeat w.list ≡ false → try_all (encode s) w.owner w.alert w.list ≡ after_look (look all w.owner s.objects w.list)
   unfolding try_all look_all look
   all_is d = rw (all_signaled_is w.owner s.objects w.list (λ i. signaled_at (encode s) w.owner (get_or w.list i 0)) (λ k. signaled_at_lem s full w.owner (get_or w.list k 0)))
       (by_bool (all_signaled w.owner s.objects w.list)
@@ -68,7 +68,7 @@ module _ (s : State) (full : length s.objects ≡ object_places) (w : Wait) wher
       (λ f. rw f (missed_look none refl)))
 
   mode_case : (m : Mode) → repeats m (w.alert ∷ w.list) ≡ false
-      → cond (eqb (mode_cell m) 0) (try_any (encode s) w.owner w.alert w.list) (try_all (encode s) w.owner w.alert w.list) ≡ afterLook (look m w.owner s.objects w.list)
+      → cond (eqb (mode_cell m) 0) (try_any (encode s) w.owner w.alert w.list) (try_all (encode s) w.owner w.alert w.list) ≡ after_look (look m w.owner s.objects w.list)
   unfolding has_repeat
   mode_case any e = any_is
   mode_case all e = all_is (or_split (member w.alert w.list) (has_repeat w.list) e).1
@@ -79,7 +79,7 @@ module _ (s : State) (full : length s.objects ≡ object_places) (w : Wait) wher
   try_list_lem d = mode_case w.mode d
 
 -- a queued wait has no handle twice, where it must not
-pub once : (s : State) (w : Wait) → Valid s → w isIn s.waits → repeats w.mode (w.alert ∷ w.list) ≡ false
+pub once : (s : State) (w : Wait) → Valid s → w is_in s.waits → repeats w.mode (w.alert ∷ w.list) ≡ false
 once s w g m = let (t0, (t1, (t2, (t3, (t4, (t5, (t6, (t7, (t8, t9))))))))) = passed _ (g.waits w m) in not-true _ t8
 
 -- the attempt of a queued wait

@@ -11,13 +11,13 @@ use lib.ListN.{length, get_or}
 use lib.Dec.{eqb, ltb}
 use borrow.Author.Tests.{ltb-true, ltb-false, eqb-true, eqb-false, lt-ltb, le-ltb, ne_eqb}
 use Rattle.model.specs.Basics.{done, invalid, bit, overwrite}
-use Rattle.model.specs.Calls.{Kind, aSemaphore, aMutex, anEvent, Signal, post, unlock, kill, setEvent, pulseEvent, Operation, create, close, resetEvent, read, signal, expire, cancel, snapshot, Lent, least, refusal, Rule, rule, read_rule, held_by, signal_rule, reset_rule, clears_after, bad_new, new_object, lowest_empty, new_handle, refusals, Change, answers, writes, wakes, end_each, change}
+use Rattle.model.specs.Calls.{Kind, a_semaphore, a_mutex, an_event, Signal, post, unlock, kill, set_event, pulse_event, Operation, create, close, reset_event, read, signal, expire, cancel, snapshot, Lent, least, refusal, Rule, rule, read_rule, held_by, signal_rule, reset_rule, clears_after, bad_new, new_object, lowest_empty, new_handle, refusals, Change, answers, writes, wakes, end_each, change}
 use Rattle.model.specs.Snapshot.{snapshot_text}
 use Rattle.model.specs.Layout.{encode}
 use Rattle.model.specs.Sizes.{object_places, wait_places, wake_length, snapshot_buffer}
 use Rattle.model.specs.Objects.{Object, empty, semaphore, mutex, event, occupied, cleared}
 use Rattle.model.specs.Steps.{Outcome, conditions_on, perform_on, first_refusal, records, completed, on_tables}
-use Rattle.model.specs.Notions.{◌isIn◌}
+use Rattle.model.specs.Notions.{◌is_in◌}
 use Rattle.model.specs.Waits.{Wait, free, State, with_waits, object_at, put_object, dequeue, any_waiting, concerned_by, Woken, wake_by_walk}
 use Rattle.model.proofs.Waking.{walk_nothing}
 use Rattle.model.proofs.Logic.{by_bool}
@@ -64,9 +64,9 @@ any_length l = le-ltb (length l) 0 (omega arith)
 
 -- CREATING
 new_fields_lem : (k : Kind) (x y : ℕ) → new_fields k x y ≡ fields_of (new_object k x y)
-new_fields_lem aSemaphore x y = refl
-new_fields_lem aMutex x y = refl
-new_fields_lem anEvent x y = refl
+new_fields_lem a_semaphore x y = refl
+new_fields_lem a_mutex x y = refl
+new_fields_lem an_event x y = refl
 
 pub create_is : (s : State) → Valid s → (k : Kind) (x y : ℕ) (l : Lent) → create_cells (bad_new k x y) (new_fields k x y) (encode s) l ≡ means s (create k x y) l
 unfolding create_cells empty_object refusals first_refusal least change
@@ -119,34 +119,34 @@ module _ (s : State) (g : Valid s) (h : ℕ) (l : Lent) where
           (plain s l _ _ _ ∙ no_refusal (read k h) (ap (λ (r : Rule). r.refusals) e) refl))
 
       go : (k : Kind) (x : Object) → object_at s.objects h ≡ x → read_on k (fields_of x) (encode s) l ≡ means s (read k h) l
-      go aSemaphore empty e = refused aSemaphore (rw e)
-      go aSemaphore (semaphore c m) e = given aSemaphore 0 c m (rw e)
-      go aSemaphore (mutex o c a) e = refused aSemaphore (rw e)
-      go aSemaphore (event v m) e = refused aSemaphore (rw e)
-      go aMutex empty e = refused aMutex (rw e)
-      go aMutex (semaphore c m) e = refused aMutex (rw e)
-      go aMutex (mutex o c true) e = given aMutex 4 0 0 (rw e)
-      go aMutex (mutex o c false) e = given aMutex 0 o c (rw e)
-      go aMutex (event v m) e = refused aMutex (rw e)
-      go anEvent empty e = refused anEvent (rw e)
-      go anEvent (semaphore c m) e = refused anEvent (rw e)
-      go anEvent (mutex o c a) e = refused anEvent (rw e)
-      go anEvent (event v m) e = given anEvent 0 (bit v) (bit m) (rw e)
+      go a_semaphore empty e = refused a_semaphore (rw e)
+      go a_semaphore (semaphore c m) e = given a_semaphore 0 c m (rw e)
+      go a_semaphore (mutex o c a) e = refused a_semaphore (rw e)
+      go a_semaphore (event v m) e = refused a_semaphore (rw e)
+      go a_mutex empty e = refused a_mutex (rw e)
+      go a_mutex (semaphore c m) e = refused a_mutex (rw e)
+      go a_mutex (mutex o c true) e = given a_mutex 4 0 0 (rw e)
+      go a_mutex (mutex o c false) e = given a_mutex 0 o c (rw e)
+      go a_mutex (event v m) e = refused a_mutex (rw e)
+      go an_event empty e = refused an_event (rw e)
+      go an_event (semaphore c m) e = refused an_event (rw e)
+      go an_event (mutex o c a) e = refused an_event (rw e)
+      go an_event (event v m) e = given an_event 0 (bit v) (bit m) (rw e)
 
-  pub reset_is : reset_cells h (encode s) l ≡ means s (resetEvent h) l
+  pub reset_is : reset_cells h (encode s) l ≡ means s (reset_event h) l
   unfolding reset_cells
   reset_is = rw (named_is s g.places h) (go (object_at s.objects h) refl)
     where
-      refused : (reset_rule (object_at s.objects h)).refusals ≡ refusal invalid true ∷ [] → refused_with 1 (encode s) l ≡ means s (resetEvent h) l
-      refused e = unfold refusals least in wrong_kind_lem (resetEvent h) e refl
+      refused : (reset_rule (object_at s.objects h)).refusals ≡ refusal invalid true ∷ [] → refused_with 1 (encode s) l ≡ means s (reset_event h) l
+      refused e = unfold refusals least in wrong_kind_lem (reset_event h) e refl
 
-      go : (x : Object) → object_at s.objects h ≡ x → reset_on h (fields_of x) (encode s) l ≡ means s (resetEvent h) l
+      go : (x : Object) → object_at s.objects h ≡ x → reset_on h (fields_of x) (encode s) l ≡ means s (reset_event h) l
       go empty e = unfold switch_fields in refused (rw e)
       go (semaphore c m) e = unfold switch_fields in refused (rw e)
       go (mutex o c a) e = unfold switch_fields in refused (rw e)
       go (event v m) e = unfold refusals least change switch_fields in (
           rw (store_is s g.places h (event false m)) (plain (put_object s h (event false m)) l 0 (bit v) 0
-          ∙ ap (leaves l) (let r : answers 0 (bit v) 0 (put_object s h (event false m)) ≡ change (resetEvent h) s = rw e in r) ∙ no_refusal (resetEvent h) (ap (λ (y : Object). (reset_rule y).refusals) e) refl))
+          ∙ ap (leaves l) (let r : answers 0 (bit v) 0 (put_object s h (event false m)) ≡ change (reset_event h) s = rw e in r) ∙ no_refusal (reset_event h) (ap (λ (y : Object). (reset_rule y).refusals) e) refl))
 
 -- WAKING
 long_enough : (wake : List ℕ) → ltb (length wake) wake_length ≡ false → wake_length ≤ length wake
@@ -172,8 +172,8 @@ module _ (s : State) (g : Valid s) (h : ℕ) (l : Lent) (long : ltb (length l.wa
       go (post add) = refl
       go (unlock asking) = refl
       go (kill asking) = refl
-      go setEvent = refl
-      go pulseEvent = rw cleared_store
+      go set_event = refl
+      go pulse_event = rw cleared_store
 
   signal_refused : (how : Signal) (n : ℕ) → first_refusal (signal_rule how (object_at s.objects h)).refusals ≡ some n → refused_with n (encode s) l ≡ means s (signal how h) l
   unfolding first_refusal refusals least
@@ -224,14 +224,14 @@ module _ (s : State) (g : Valid s) (h : ℕ) (l : Lent) (long : ltb (length l.wa
   signal_on_lem (kill asking) (semaphore c m) e = signal_refused (kill asking) 1 (rw e)
   signal_on_lem (kill asking) (mutex o c a) e = held_is (kill asking) asking o c a 0 (mutex 0 0 true) (rw e)
   signal_on_lem (kill asking) (event v m) e = signal_refused (kill asking) 1 (rw e)
-  signal_on_lem setEvent empty e = signal_refused setEvent 1 (rw e)
-  signal_on_lem setEvent (semaphore c m) e = signal_refused setEvent 1 (rw e)
-  signal_on_lem setEvent (mutex o c a) e = signal_refused setEvent 1 (rw e)
-  signal_on_lem setEvent (event v m) e = signal_woke setEvent (bit v) (event true m) (rw e) (rw e)
-  signal_on_lem pulseEvent empty e = signal_refused pulseEvent 1 (rw e)
-  signal_on_lem pulseEvent (semaphore c m) e = signal_refused pulseEvent 1 (rw e)
-  signal_on_lem pulseEvent (mutex o c a) e = signal_refused pulseEvent 1 (rw e)
-  signal_on_lem pulseEvent (event v m) e = signal_woke pulseEvent (bit v) (event true m) (rw e) (rw e)
+  signal_on_lem set_event empty e = signal_refused set_event 1 (rw e)
+  signal_on_lem set_event (semaphore c m) e = signal_refused set_event 1 (rw e)
+  signal_on_lem set_event (mutex o c a) e = signal_refused set_event 1 (rw e)
+  signal_on_lem set_event (event v m) e = signal_woke set_event (bit v) (event true m) (rw e) (rw e)
+  signal_on_lem pulse_event empty e = signal_refused pulse_event 1 (rw e)
+  signal_on_lem pulse_event (semaphore c m) e = signal_refused pulse_event 1 (rw e)
+  signal_on_lem pulse_event (mutex o c a) e = signal_refused pulse_event 1 (rw e)
+  signal_on_lem pulse_event (event v m) e = signal_woke pulse_event (bit v) (event true m) (rw e) (rw e)
 
 pub signal_is : (s : State) → Valid s → (how : Signal) (h : ℕ) (l : Lent) → signal_cells how h (encode s) l ≡ means s (signal how h) l
 unfolding signal_cells first_refusal least
@@ -256,7 +256,7 @@ pub cancel_is : (s : State) → Valid s → (ticket : ℕ) (l : Lent) → cancel
 unfolding cancel_cells ticket_place refusals first_refusal least change
 cancel_is s g ticket l =
     let f : ℕ → Bool = λ p. eqb (ticket_at (encode s) p) ticket in let p : ℕ = search_from f 0 wait_places in let r : First f 0 wait_places p = search_is f 0 wait_places in
-    let absent : ((w : Wait) → w isIn s.waits → w.ticket ≡ ticket → ⊥) → refused_with 1 (encode s) l ≡ means s (cancel ticket) l = λ h.
+    let absent : ((w : Wait) → w is_in s.waits → w.ticket ≡ ticket → ⊥) → refused_with 1 (encode s) l ≡ means s (cancel ticket) l = λ h.
     let n : any_waiting (λ w. eqb w.ticket ticket) s.waits ≡ false = none_waiting (λ w. eqb w.ticket ticket) s.waits (λ w m. ne_eqb w.ticket ticket (h w m)) in
     refused_is s (cancel ticket) l 1 (rw (any_length l.wake, any_length l.buffer, n)) in
     by_bool (eqb ticket 0)

@@ -9,7 +9,7 @@ use lib.ListN.{length, set, replicate, length-replicate}
 use lib.Seq.{sets-eq, drop-length}
 use lib.Dec.{eqb}
 use borrow.Author.Tests.{eqb-true}
-use Rattle.model.specs.Calls.{Operation, create, close, resetEvent, read, signal, wait, expire, cancel, snapshot, Lent, Call}
+use Rattle.model.specs.Calls.{Operation, create, close, reset_event, read, signal, wait, expire, cancel, snapshot, Lent, Call}
 use Rattle.model.specs.Layout.{table_length, encode, view, valid_tables}
 use Rattle.model.specs.Steps.{library_step, on_tables, table_step, make_tables}
 use Rattle.model.specs.Waits.{State}
@@ -34,7 +34,7 @@ pub call_is : (op : Operation) (l : Lent) (s : State) → Valid s → on_cells o
 unfolding library_step means
 call_is (create k x y) l s g = create_is s g k x y l
 call_is (close h) l s g = close_is s g h l
-call_is (resetEvent h) l s g = reset_is s g h l
+call_is (reset_event h) l s g = reset_is s g h l
 call_is (read k h) l s g = read_is s g h l k
 call_is (signal how h) l s g = signal_is s g how h l
 call_is (wait mode hs o f p a time now) l s g = wait_is s g mode hs o f p a time now l

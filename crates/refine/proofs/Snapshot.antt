@@ -15,7 +15,7 @@ use Rattle.model.specs.Snapshot.{ascii, line, object_text, objects_text, object_
 use Rattle.model.specs.Layout.{mode_cell, encode, distinct_tickets}
 use Rattle.model.specs.Sizes.{object_places, wait_places}
 use Rattle.model.specs.Objects.{Object, empty, semaphore, mutex, event, occupied}
-use Rattle.model.specs.Notions.{◌isIn◌}
+use Rattle.model.specs.Notions.{◌is_in◌}
 use Rattle.model.specs.Waits.{Mode, any, all, Wait, WaitPlace, free, waiting, State, object_at, oldest, any_waiting}
 use Rattle.model.proofs.Waking.{each}
 use Rattle.model.proofs.Logic.{by_bool, by_option, and_split, eqb_same}
@@ -102,7 +102,7 @@ waits_text (suc n) last s g = ⊎_elim
     (next_is s last g)
 
 -- how many waits there are: by places, and by ticket
-count_or : (f a b : Wait → Bool) (ws : List WaitPlace) → ((w : Wait) → w isIn ws → bit (f w) ≡ bit (a w) + bit (b w)) → count f ws ≡ count a ws + count b ws
+count_or : (f a b : Wait → Bool) (ws : List WaitPlace) → ((w : Wait) → w is_in ws → bit (f w) ≡ bit (a w) + bit (b w)) → count f ws ≡ count a ws + count b ws
 unfolding count
 count_or f a b [] h = refl
 count_or f a b (free ∷ ws) h = count_or f a b ws h
@@ -113,20 +113,20 @@ count_or f a b (waiting w ∷ ws) h = let ih = count_or f a b ws (λ v m. h v (i
     counted true n = omega arith
     counted false n = sym (zero-add n)
 
-none_counted : (f : Wait → Bool) (ws : List WaitPlace) → ((w : Wait) → w isIn ws → f w ≡ false) → count f ws ≡ 0
+none_counted : (f : Wait → Bool) (ws : List WaitPlace) → ((w : Wait) → w is_in ws → f w ≡ false) → count f ws ≡ 0
 unfolding count
 none_counted f [] h = refl
 none_counted f (free ∷ ws) h = none_counted f ws h
 none_counted f (waiting w ∷ ws) h = rw (h w (inl refl)) (none_counted f ws (λ v m. h v (inr m)))
 
-one_counted : (ws : List WaitPlace) (w : Wait) → distinct_tickets ws ≡ true → w isIn ws → count (λ v. eqb v.ticket w.ticket) ws ≡ 1
+one_counted : (ws : List WaitPlace) (w : Wait) → distinct_tickets ws ≡ true → w is_in ws → count (λ v. eqb v.ticket w.ticket) ws ≡ 1
 unfolding count distinct_tickets
 one_counted [] w d m = absurd m
 one_counted (free ∷ ws) w d m = one_counted ws w d m
 one_counted (waiting u ∷ ws) w d m = let r = and_split (not (any_waiting (λ v. eqb v.ticket u.ticket) ws)) (distinct_tickets ws) d in
-    let others : (v : Wait) → v isIn ws → eqb v.ticket u.ticket ≡ false = waiting_none (λ v. eqb v.ticket u.ticket) ws (not-true _ r.0) in ⊎_elim
+    let others : (v : Wait) → v is_in ws → eqb v.ticket u.ticket ≡ false = waiting_none (λ v. eqb v.ticket u.ticket) ws (not-true _ r.0) in ⊎_elim
     (λ (e : w ≡ u). rw (e, eqb_same u.ticket, none_counted (λ v. eqb v.ticket u.ticket) ws others))
-    (λ (k : w isIn ws). let n : eqb u.ticket w.ticket ≡ false = ne_eqb u.ticket w.ticket (λ e. eqb-false w.ticket u.ticket (others w k) (sym e)) in rw n (one_counted ws w r.1 k)) m
+    (λ (k : w is_in ws). let n : eqb u.ticket w.ticket ≡ false = ne_eqb u.ticket w.ticket (λ e. eqb-false w.ticket u.ticket (others w k) (sym e)) in rw n (one_counted ws w r.1 k)) m
 
 bits_above : (last t v : ℕ) → last < t → (last < v → t ≤ v) → bit (ltb last v) ≡ bit (eqb v t) + bit (ltb t v)
 bits_above last t v l h = by_bool (ltb last v)

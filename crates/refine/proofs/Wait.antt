@@ -110,28 +110,28 @@ unfolding encode
 next_cell s n = refl
 
 module _ (s : State) (g : Valid s) where
-  abbrev freeTest : ℕ → Bool
-  freeTest p = eqb (ticket_at (encode s) p) 0
+  abbrev free_test : ℕ → Bool
+  free_test p = eqb (ticket_at (encode s) p) 0
 
-  free_test : (k : ℕ) → k < length s.waits → freeTest (0 + k) ≡ is_free (get_or s.waits k free)
+  free_test : (k : ℕ) → k < length s.waits → free_test (0 + k) ≡ is_free (get_or s.waits k free)
   free_test k l = let q = g.slots in let m : k < wait_places = omega arith in rw (zero-add k) (by_place (get_or s.waits k free)
       (λ e. let z = free_ticket s k g m e in rw (e, z))
       (λ w e. let n : eqb w.ticket 0 ≡ false = ne_eqb w.ticket 0 (λ z. let a : 0 < w.ticket = above_zero s k w g e in let y : ⊥ = omega arith in y) in rw (e, ticket_at_lem s k w (holds s k w g m e), n)))
 
   empty_full : ltb (empty_wait (encode s)) wait_places ≡ not (waits_full s.waits)
   unfolding ticket_place
-  empty_full = let q = g.slots in rw (search_full s.waits 0 freeTest free_test, zero-add (length s.waits), q) (sym (not-not (ltb (search_from freeTest 0 wait_places) wait_places)))
+  empty_full = let q = g.slots in rw (search_full s.waits 0 free_test free_test, zero-add (length s.waits), q) (sym (not-not (ltb (search_from free_test 0 wait_places) wait_places)))
 
   empty_free : empty_wait (encode s) < wait_places → get_or s.waits (empty_wait (encode s)) free ≡ free
   unfolding ticket_place
-  empty_free l = let p : ℕ = search_from freeTest 0 wait_places in by_place (get_or s.waits p free) (λ e. e)
-      (λ w e. absurd (let t : ticket_at (encode s) p ≡ 0 = eqb-true _ _ ((search_is freeTest 0 wait_places).found (omega arith)) in let a : 0 < w.ticket = above_zero s p w g e in
+  empty_free l = let p : ℕ = search_from free_test 0 wait_places in by_place (get_or s.waits p free) (λ e. e)
+      (λ w e. absurd (let t : ticket_at (encode s) p ≡ 0 = eqb-true _ _ ((search_is free_test 0 wait_places).found (omega arith)) in let a : 0 < w.ticket = above_zero s p w g e in
       let u : ticket_at (encode s) p ≡ w.ticket = ticket_at_lem s p w (holds s p w g l e) in let y : ⊥ = omega arith in y))
 
   empty_enqueue : (w : Wait) → enqueue w s.waits ≡ set s.waits (empty_wait (encode s)) (waiting w)
   unfolding ticket_place
-  empty_enqueue w = let q = g.slots in search_enqueue w s.waits 0 freeTest free_test
-      ∙ ap (λ (n : ℕ). set s.waits n (waiting w)) (let z : search_from freeTest 0 (length s.waits) - 0 ≡ search_from freeTest 0 (length s.waits) = omega arith in z ∙ ap (search_from freeTest 0) q)
+  empty_enqueue w = let q = g.slots in search_enqueue w s.waits 0 free_test free_test
+      ∙ ap (λ (n : ℕ). set s.waits n (waiting w)) (let z : search_from free_test 0 (length s.waits) - 0 ≡ search_from free_test 0 (length s.waits) = omega arith in z ∙ ap (search_from free_test 0) q)
 
   queue_is : (w : Wait) → w.ticket ≡ s.next → empty_wait (encode s) < wait_places → length w.list ≤ max_listed
       → queue_cells (encode s) (empty_wait (encode s)) (mode_cell w.mode) w.list w.owner w.clock w.alert w.timeout ≡ encode (with_next (with_waits s (enqueue w s.waits)) (suc s.next))

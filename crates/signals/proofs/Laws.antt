@@ -7,7 +7,7 @@ use native.Mathlib.Omega.{arith}
 use lib.Dec.{eqb, ltb}
 use borrow.Author.Tests.{lt-ltb, le-ltb, eq-eqb, ne_eqb, eqb-true}
 use Rattle.model.specs.Sizes.{wait_places}
-use Rattle.model.specs.Calls.{wake_lent, setEvent, pulseEvent}
+use Rattle.model.specs.Calls.{wake_lent, set_event, pulse_event}
 use Rattle.model.proofs.Logic.{by_bool, clash}
 use Rattle.cells.specs.Objects.{Fields, Changed, named, store, switch_fields}
 use Rattle.cells.specs.Walk.{Walked, walked, wake_cells, end_cells}
@@ -33,17 +33,17 @@ module _ (clock time : ℕ) (t wake : List ℕ) where
   expire_done l q = rw (le-ltb 1 clock l, sym q)
 
 -- a pulse, after the set that it begins with
-module _ (t wake : List ℕ) (h : ℕ) (x : Fields) (r : Result) (e : r ≡ signal_on setEvent h x t (wake_lent wake)) where
+module _ (t wake : List ℕ) (h : ℕ) (x : Fields) (r : Result) (e : r ≡ signal_on set_event h x t (wake_lent wake)) where
   set_answer : (b : Bool) → eqb (switch_fields 1 x).answer 0 ≡ b → eqb r.answer 0 ≡ b
-  set_answer true y = let q : (signal_on setEvent h x t (wake_lent wake)).answer ≡ 0 = rw y in rw (e, q)
-  set_answer false n = let q : (signal_on setEvent h x t (wake_lent wake)).answer ≡ (switch_fields 1 x).answer = rw n in rw (e, q) n
+  set_answer true y = let q : (signal_on set_event h x t (wake_lent wake)).answer ≡ 0 = rw y in rw (e, q)
+  set_answer false n = let q : (signal_on set_event h x t (wake_lent wake)).answer ≡ (switch_fields 1 x).answer = rw n in rw (e, q) n
 
-  pub pulse_refused : (r.answer ≡ 0 → ⊥) → r ≡ signal_on pulseEvent h x t (wake_lent wake)
+  pub pulse_refused : (r.answer ≡ 0 → ⊥) → r ≡ signal_on pulse_event h x t (wake_lent wake)
   pulse_refused z = by_bool (eqb (switch_fields 1 x).answer 0) (λ y. clash (set_answer true y) (ne_eqb r.answer 0 z)) (λ n. e ∙ rw n)
 
   abbrev clearing : Result → Result
   clearing q = record { answer = q.answer; first = q.first; second = q.second; woken = q.woken; tables = store q.tables h (switch_fields 0 (named q.tables h)).next; wake = q.wake; buffer = q.buffer }
 
   pub pulse_done : r.answer ≡ 0 → (c : Changed) {u : List ℕ} {y : Fields} → y ≡ named r.tables h → c ≡ switch_fields 0 y → u ≡ store r.tables h c.next
-      → record { answer = r.answer; first = r.first; second = r.second; woken = r.woken; tables = u; wake = r.wake; buffer = r.buffer } ≡ signal_on pulseEvent h x t (wake_lent wake)
+      → record { answer = r.answer; first = r.first; second = r.second; woken = r.woken; tables = u; wake = r.wake; buffer = r.buffer } ≡ signal_on pulse_event h x t (wake_lent wake)
   pulse_done z c o d s = rw (s, d, o) (by_bool (eqb (switch_fields 1 x).answer 0) (λ y. ap clearing e ∙ rw y) (λ n. clash (eq-eqb r.answer 0 z) (set_answer false n)))

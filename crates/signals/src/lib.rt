@@ -3,7 +3,7 @@
 ghost use Rattle.std.specs.Prelude.{◌≡◌, true, [], ◌≤◌, length};
 ghost use Rattle.model.specs.Sizes.{wake_length};
 ghost use Rattle.model.specs.Layout.{table_length};
-ghost use Rattle.model.specs.Calls.{wake_lent, post, unlock, kill, setEvent, pulseEvent};
+ghost use Rattle.model.specs.Calls.{wake_lent, post, unlock, kill, set_event, pulse_event};
 ghost use Rattle.cells.specs.Objects.{named};
 ghost use Rattle.cells.specs.Validity.{valid_cells};
 ghost use Rattle.cells.specs.Calls.{signal_on, expire_on};
@@ -74,7 +74,7 @@ pub fn kill(t: &mut [u64], wake: &mut [u64], h: u64, asking: u64) -> Changed
 
 pub fn set(t: &mut [u64], wake: &mut [u64], h: u64) -> Changed
     requires { (length t.old ≡ table_length) × (valid_cells t.old ≡ true) × (wake_length ≤ length wake.old) }
-    ensures { left_by result t.new wake.new ≡ signal_on setEvent h (named t.old h) t.old (wake_lent wake.old) }
+    ensures { left_by result t.new wake.new ≡ signal_on set_event h (named t.old h) t.old (wake_lent wake.old) }
 {
     let o = tables::named(t, h);
     let previous = o.count as u32;
@@ -85,7 +85,7 @@ pub fn set(t: &mut [u64], wake: &mut [u64], h: u64) -> Changed
 // As set; then the event is cleared, whoever took it.
 pub fn pulse(t: &mut [u64], wake: &mut [u64], h: u64) -> Changed
     requires { (length t.old ≡ table_length) × (valid_cells t.old ≡ true) × (wake_length ≤ length wake.old) }
-    ensures { left_by result t.new wake.new ≡ signal_on pulseEvent h (named t.old h) t.old (wake_lent wake.old) }
+    ensures { left_by result t.new wake.new ≡ signal_on pulse_event h (named t.old h) t.old (wake_lent wake.old) }
 {
     let r = set(t, wake, h);
     if r.answer != 0 {

@@ -1,5 +1,5 @@
 use mathlib.Core.List.{[]}
-use Rattle.model.specs.Calls.{signal, pulseEvent, wake_lent, asks}
+use Rattle.model.specs.Calls.{signal, pulse_event, wake_lent, asks}
 use Rattle.ntsync_fronts.proofs.Laws.{front_room, handed_is}
 use native.Mathlib.Omega.{arith}
 use borrow.Author.Rules.{rules}
@@ -19,13 +19,13 @@ cast-t12 : tie.Need-overflow-cast-t12
 cast-t12 c = search rules
 
 front-requires : tie.Need-front-requires
-front-requires c κs = let a = c.before.before.before.before.before.before.before.before.before.before.before.before.before.args in front_room a.tables.now (asks (signal pulseEvent a.handle) (wake_lent a.wake.now)) c.before.before.before.before.before.before.before.before.pulse.ensures
+front-requires c κs = let a = c.before.before.before.before.before.before.before.before.before.before.before.before.before.args in front_room a.tables.now (asks (signal pulse_event a.handle) (wake_lent a.wake.now)) c.before.before.before.before.before.before.before.before.pulse.ensures
 
 same_length : tie.Need-same-length
 same_length c = search rules
 
 returns : tie.Need-returns
-returns c = let a = c.before.before.before.before.before.before.before.before.before.before.before.before.before.before.args in (handed_is a.tables.now (asks (signal pulseEvent a.handle) (wake_lent a.wake.now)) c.before.before.before.before.before.before.before.before.before.pulse.ensures c.front.ensures.0, c.front.ensures.1)
+returns c = let a = c.before.before.before.before.before.before.before.before.before.before.before.before.before.before.args in (handed_is a.tables.now (asks (signal pulse_event a.handle) (wake_lent a.wake.now)) c.before.before.before.before.before.before.before.before.before.pulse.ensures c.front.ensures.0, c.front.ensures.1)
 
 pub pulse-woken-spec : {M : Type 1} → statement M
 pulse-woken-spec =

@@ -1,5 +1,5 @@
 use mathlib.Core.List.{[]}
-use Rattle.model.specs.Calls.{signal, setEvent, wake_lent, asks}
+use Rattle.model.specs.Calls.{signal, set_event, wake_lent, asks}
 use Rattle.ntsync_fronts.proofs.Laws.{front_room, handed_is}
 use native.Mathlib.Omega.{arith}
 use borrow.Author.Rules.{rules}
@@ -19,13 +19,13 @@ cast-t12 : tie.Need-overflow-cast-t12
 cast-t12 c = search rules
 
 front-requires : tie.Need-front-requires
-front-requires c κs = let a = c.before.before.before.before.before.before.before.before.before.before.before.before.before.args in front_room a.tables.now (asks (signal setEvent a.handle) (wake_lent a.wake.now)) c.before.before.before.before.before.before.before.before.set.ensures
+front-requires c κs = let a = c.before.before.before.before.before.before.before.before.before.before.before.before.before.args in front_room a.tables.now (asks (signal set_event a.handle) (wake_lent a.wake.now)) c.before.before.before.before.before.before.before.before.set.ensures
 
 same_length : tie.Need-same-length
 same_length c = search rules
 
 returns : tie.Need-returns
-returns c = let a = c.before.before.before.before.before.before.before.before.before.before.before.before.before.before.args in (handed_is a.tables.now (asks (signal setEvent a.handle) (wake_lent a.wake.now)) c.before.before.before.before.before.before.before.before.before.set.ensures c.front.ensures.0, c.front.ensures.1)
+returns c = let a = c.before.before.before.before.before.before.before.before.before.before.before.before.before.before.args in (handed_is a.tables.now (asks (signal set_event a.handle) (wake_lent a.wake.now)) c.before.before.before.before.before.before.before.before.before.set.ensures c.front.ensures.0, c.front.ensures.1)
 
 pub set-woken-spec : {M : Type 1} → statement M
 set-woken-spec =

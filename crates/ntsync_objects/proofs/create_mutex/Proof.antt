@@ -1,4 +1,4 @@
-use Rattle.model.specs.Calls.{aMutex}
+use Rattle.model.specs.Calls.{a_mutex}
 use Rattle.ntsync_objects.proofs.Laws.{creates}
 use native.Mathlib.Omega.{arith}
 use borrow.Author.Rules.{rules}
@@ -23,7 +23,7 @@ same_length c = search rules
 
 -- src/lib.rt:92:1
 returns : tie.Need-returns
-returns c = let a = c.before.before.before.before.before.before.args in creates aMutex a.owner a.count a.tables.now (λ i. omega (arith, c.before.before.before.before.before.slice-known.given i)) c.before.before.before.before.create.ensures.0 c.before.before.before.before.create.ensures.1 c.before.before.place.ensures
+returns c = let a = c.before.before.before.before.before.before.args in creates a_mutex a.owner a.count a.tables.now (λ i. omega (arith, c.before.before.before.before.before.slice-known.given i)) c.before.before.before.before.create.ensures.0 c.before.before.before.before.create.ensures.1 c.before.before.place.ensures
 
 pub create-mutex-spec : {M : Type 1} → statement M
 create-mutex-spec = tie.close (tie.spec create-requires place-requires same_length returns)

@@ -1,4 +1,4 @@
-use Rattle.model.specs.Calls.{aSemaphore}
+use Rattle.model.specs.Calls.{a_semaphore}
 use Rattle.ntsync_objects.proofs.Laws.{creates}
 use native.Mathlib.Omega.{arith}
 use borrow.Author.Rules.{rules}
@@ -23,7 +23,7 @@ same_length c = search rules
 
 -- src/lib.rt:81:1
 returns : tie.Need-returns
-returns c = let a = c.before.before.before.before.before.before.args in creates aSemaphore a.count a.max a.tables.now (λ i. omega (arith, c.before.before.before.before.before.slice-known.given i)) c.before.before.before.before.create.ensures.0 c.before.before.before.before.create.ensures.1 c.before.before.place.ensures
+returns c = let a = c.before.before.before.before.before.before.args in creates a_semaphore a.count a.max a.tables.now (λ i. omega (arith, c.before.before.before.before.before.slice-known.given i)) c.before.before.before.before.create.ensures.0 c.before.before.before.before.create.ensures.1 c.before.before.place.ensures
 
 pub create-sem-spec : {M : Type 1} → statement M
 create-sem-spec = tie.close (tie.spec create-requires place-requires same_length returns)

@@ -1,4 +1,4 @@
-use Rattle.model.specs.Calls.{pulseEvent}
+use Rattle.model.specs.Calls.{pulse_event}
 use Rattle.ntsync_signals.proofs.Laws.{wakes_valid, wakes_length, wakes_long, signal_refused, signal_done}
 use native.Mathlib.Omega.{arith}
 use borrow.Author.Rules.{rules}
@@ -15,7 +15,7 @@ same-length-2 : tie.Need-same-length-2
 same-length-2 c = search rules
 
 returns : tie.Need-returns
-returns c = let a = c.before.before.before.before.before.before.args in signal_refused a.tables.now a.wake.now c.before.refused.ensures pulseEvent a.handle (λ i. omega (arith, c.before.before.before.before.before.slice-known.given i)) c.if1.true
+returns c = let a = c.before.before.before.before.before.before.args in signal_refused a.tables.now a.wake.now c.before.refused.ensures pulse_event a.handle (λ i. omega (arith, c.before.before.before.before.before.slice-known.given i)) c.if1.true
 
 pulse-requires : tie.Need-pulse-requires
 pulse-requires c κs = let a = c.before.before.before.before.before.before.before.before.args in (wakes_length a.tables.now a.wake.now c.before.before.before.refused.ensures c.before.before.if1.false, wakes_valid a.tables.now a.wake.now c.before.before.before.refused.ensures c.before.before.if1.false, wakes_long a.tables.now a.wake.now c.before.before.before.refused.ensures c.before.before.if1.false)
@@ -27,7 +27,7 @@ same-length-4 : tie.Need-same-length-4
 same-length-4 c = search rules
 
 returns-2 : tie.Need-returns-2
-returns-2 c = let a = c.before.before.before.before.before.before.before.before.before.before.before.before.before.args in signal_done a.tables.now a.wake.now c.before.before.before.before.before.before.before.before.refused.ensures pulseEvent a.handle (λ i. omega (arith, c.before.before.before.before.before.before.before.before.before.before.before.before.slice-known.given i)) c.before.before.before.before.before.before.before.if1.false c.before.before.before.before.pulse.ensures
+returns-2 c = let a = c.before.before.before.before.before.before.before.before.before.before.before.before.before.args in signal_done a.tables.now a.wake.now c.before.before.before.before.before.before.before.before.refused.ensures pulse_event a.handle (λ i. omega (arith, c.before.before.before.before.before.before.before.before.before.before.before.before.slice-known.given i)) c.before.before.before.before.before.before.before.if1.false c.before.before.before.before.pulse.ensures
 
 pub pulse-spec : {M : Type 1} → statement M
 pulse-spec =

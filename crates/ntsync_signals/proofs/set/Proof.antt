@@ -1,4 +1,4 @@
-use Rattle.model.specs.Calls.{setEvent}
+use Rattle.model.specs.Calls.{set_event}
 use Rattle.ntsync_signals.proofs.Laws.{wakes_valid, wakes_length, wakes_long, signal_refused, signal_done}
 use native.Mathlib.Omega.{arith}
 use borrow.Author.Rules.{rules}
@@ -15,7 +15,7 @@ same-length-2 : tie.Need-same-length-2
 same-length-2 c = search rules
 
 returns : tie.Need-returns
-returns c = let a = c.before.before.before.before.before.before.args in signal_refused a.tables.now a.wake.now c.before.refused.ensures setEvent a.handle (λ i. omega (arith, c.before.before.before.before.before.slice-known.given i)) c.if1.true
+returns c = let a = c.before.before.before.before.before.before.args in signal_refused a.tables.now a.wake.now c.before.refused.ensures set_event a.handle (λ i. omega (arith, c.before.before.before.before.before.slice-known.given i)) c.if1.true
 
 set-requires : tie.Need-set-requires
 set-requires c κs = let a = c.before.before.before.before.before.before.before.before.args in (wakes_length a.tables.now a.wake.now c.before.before.before.refused.ensures c.before.before.if1.false, wakes_valid a.tables.now a.wake.now c.before.before.before.refused.ensures c.before.before.if1.false, wakes_long a.tables.now a.wake.now c.before.before.before.refused.ensures c.before.before.if1.false)
@@ -27,7 +27,7 @@ same-length-4 : tie.Need-same-length-4
 same-length-4 c = search rules
 
 returns-2 : tie.Need-returns-2
-returns-2 c = let a = c.before.before.before.before.before.before.before.before.before.before.before.before.before.args in signal_done a.tables.now a.wake.now c.before.before.before.before.before.before.before.before.refused.ensures setEvent a.handle (λ i. omega (arith, c.before.before.before.before.before.before.before.before.before.before.before.before.slice-known.given i)) c.before.before.before.before.before.before.before.if1.false c.before.before.before.before.set.ensures
+returns-2 c = let a = c.before.before.before.before.before.before.before.before.before.before.before.before.before.args in signal_done a.tables.now a.wake.now c.before.before.before.before.before.before.before.before.refused.ensures set_event a.handle (λ i. omega (arith, c.before.before.before.before.before.before.before.before.before.before.before.before.slice-known.given i)) c.before.before.before.before.before.before.before.if1.false c.before.before.before.before.set.ensures
 
 pub set_spec : {M : Type 1} → statement M
 set_spec =
