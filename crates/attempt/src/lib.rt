@@ -1,5 +1,7 @@
 // An attempt over a list of handles: what is signaled, what a look finds, what is acquired. The list is lent: a fresh wait's
 // own, or a copy of a queued one's.
+#![tactic(auto)]
+
 ghost use Rattle.std.specs.Prelude.{◌≡◌, cond, length};
 ghost use Rattle.model.specs.Calls.{time_up};
 ghost use Rattle.model.specs.Layout.{table_length};
@@ -9,7 +11,7 @@ ghost use Rattle.attempt.specs.Values.{tried_by};
 const NEVER: u64 = 18446744073709551615;
 
 // Whether the wait was served, then its answer and index.
-#[derive(Drop)]
+#[derive(Clone, Copy)]
 pub struct Attempted {
     pub served: bool,
     pub answer: u32,

@@ -1,4 +1,6 @@
 // What the benchmark links (docs/BENCH.md): no part of the library.
+#![tactic(auto)]
+
 ghost use Rattle.std.specs.Prelude.{◌≡◌};
 ghost use Rattle.model.specs.Basics.{bit};
 ghost use Rattle.cells.specs.Validity.{valid_cells};

@@ -1,4 +1,6 @@
 // The sum of the bytes of a lent slice, modulo 2^32.
+#![tactic(auto)]
+
 ghost use Rattle.std.specs.Prelude.{◌≡◌, ◌%◌};
 ghost use Rattle.model.specs.Sizes.{word32};
 ghost use Rattle.model.specs.Snapshot.{byte_sum};

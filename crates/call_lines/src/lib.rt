@@ -3,6 +3,8 @@
 // The functions are proved safe and ending, and most promise nothing more: the statements about the calls are the contracts
 // of crates/ntsync. Only `same`, `is_untouched` and `is_kept` (of the snapshot's cases) have whole contracts, because
 // "unaltered" and "rest kept" rest on them.
+#![tactic(auto)]
+
 pub mod asked;
 pub mod memory;
 pub mod print;

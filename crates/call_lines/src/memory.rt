@@ -11,7 +11,7 @@ pub type Cells = [u64; TABLE_LENGTH];
 
 // The tables of a case, by value: a call takes them and gives them back. To prove a row of such calls takes a third of the time
 // that it takes where each is lent them.
-#[derive(Drop)]
+#[derive(Clone, Copy)]
 pub struct Tables {
     pub cells: Cells,
 }

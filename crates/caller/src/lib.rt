@@ -1,5 +1,7 @@
 // A caller in Rattle that takes its own part of the wake list after the plain call: it knows every cell, those behind
 // the records too, which the part handed out by `post_woken` can't say (docs/DECISIONS.md).
+#![tactic(auto)]
+
 ghost use Rattle.std.specs.Prelude.{◌≡◌, [], get_or};
 ghost use Rattle.model.specs.Calls.{signal, post, wake_lent, asks};
 ghost use Rattle.model.specs.Steps.{table_step, seen, handed};

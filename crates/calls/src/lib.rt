@@ -1,5 +1,7 @@
 // The calls that wake nobody, each behind its refusals, in their order. Reading asks for valid tables: their objects' numbers
 // have 32 bits.
+#![tactic(auto)]
+
 ghost use Rattle.std.specs.Prelude.{◌≡◌, [], ◌<◌, length, true};
 ghost use Rattle.model.specs.Sizes.{wait_places};
 ghost use Rattle.model.specs.Calls.{nothing_lent, a_semaphore, a_mutex, an_event};
@@ -13,13 +15,13 @@ ghost use Rattle.calls.specs.Values.{left_by};
 use kinds::{Event, Mutex, Object, Semaphore};
 
 // An answer and the number with it, or two numbers; 0 where no rule gives one.
-#[derive(Drop)]
+#[derive(Clone, Copy)]
 pub struct Numbered {
     pub answer: u32,
     pub number: u32,
 }
 
-#[derive(Drop)]
+#[derive(Clone, Copy)]
 pub struct Numbers {
     pub answer: u32,
     pub first: u32,

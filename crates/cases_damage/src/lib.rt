@@ -1,4 +1,6 @@
 // Tables that are not valid.
+#![tactic(auto)]
+
 mod damage;
 
 pub fn cases() {

@@ -1,4 +1,6 @@
 // The calls that neither wait nor wake: making, objects and handles at the borders of their numbers; the snapshot.
+#![tactic(auto)]
+
 mod again;
 mod full;
 mod limits;

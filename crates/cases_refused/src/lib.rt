@@ -1,4 +1,6 @@
 // What the waits and the calls that wake refuse, and the handed-out fronts of the wake list.
+#![tactic(auto)]
+
 mod fronts;
 mod refused;
 

@@ -1,12 +1,14 @@
 // A snapshot read back (change request 3/13): accepted texts, and refused ones with their offsets. Each text is the library's
 // own, whole, cut, or with one byte changed.
+#![tactic(auto)]
+
 use call_lines::memory::{Cells, TABLE_LENGTH, Tables};
 use call_lines::{memory, print};
 
 const BUFFER_LENGTH: usize = 65536;
 
 // A text and how long it is.
-#[derive(Drop)]
+#[derive(Clone, Copy)]
 struct Text {
     bytes: [u8; BUFFER_LENGTH],
     length: usize,

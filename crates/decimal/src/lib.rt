@@ -1,4 +1,6 @@
 // Text and decimal numbers written into a lent byte slice at a position; each answers the position after what it wrote.
+#![tactic(auto)]
+
 ghost use Rattle.std.specs.Prelude.{◌≡◌, ◌++◌, ◌∷◌, [], length};
 ghost use Rattle.model.specs.Snapshot.{digits_up_to};
 ghost use Rattle.decimal.specs.Text.{Room, Wrote};

@@ -1,4 +1,6 @@
 // The queue by ticket: the next wait, the waits whose time is up, and how a wait leaves: its record, its place cleared.
+#![tactic(auto)]
+
 ghost use Rattle.std.specs.Prelude.{◌≡◌, ◌≤◌, ◌<◌, length};
 ghost use Rattle.model.specs.Sizes.{wait_places, wake_length};
 ghost use Rattle.model.specs.Layout.{table_length};

@@ -5,6 +5,7 @@
 // so were the waits and the calls that wake in the section "damaged tables". The rest, from "making" on, was written by this
 // program and then compared with document 01.
 // The cases are libraries, so that their proofs are checked side by side.
+#![tactic(auto)]
 
 fn main() {
     cases_objects::cases();

@@ -1,4 +1,6 @@
 // The kinds of object, each with its own limits, and an object by value with its rules.
+#![tactic(auto)]
+
 ghost use Rattle.std.specs.Prelude.{◌≡◌, not, cond, eqb};
 ghost use Rattle.model.specs.Basics.{bit};
 ghost use Rattle.model.specs.Calls.{a_semaphore, a_mutex, an_event, bad_new};
@@ -9,7 +11,7 @@ ghost use Rattle.cells.specs.Calls.{new_fields};
 ghost use Rattle.kinds.specs.Values.{cells_of, change_of};
 
 // An object as its cells hold it: what a kind has no use for is 0.
-#[derive(Drop)]
+#[derive(Clone, Copy)]
 pub struct Object {
     pub kind: u64,
     // a semaphore's count, a mutex's recursion count, 1 for a set event
@@ -21,7 +23,7 @@ pub struct Object {
 }
 
 // What a constructor hands out; where `ok` is false the numbers were refused, and the object is the empty one.
-#[derive(Drop)]
+#[derive(Clone, Copy)]
 pub struct Creation {
     pub ok: bool,
     pub object: Object,
@@ -52,14 +54,14 @@ const EPERM: u32 = 2;
 const EOVERFLOW: u32 = 3;
 
 // A rule's answer, and the object's next state.
-#[derive(Drop)]
+#[derive(Clone, Copy)]
 pub struct Change {
     pub answer: u32,
     pub next: Object,
 }
 
 // The next state, and whether the object had been abandoned.
-#[derive(Drop)]
+#[derive(Clone, Copy)]
 pub struct Acquired {
     pub next: Object,
     pub abandoned: bool,
@@ -67,7 +69,7 @@ pub struct Acquired {
 
 // Each kind has its limits, and one test of its numbers, `valid`: its constructor and the validity check both ask it.
 
-#[derive(Drop)]
+#[derive(Clone, Copy)]
 pub struct Semaphore {
     pub count: u64,
     pub max: u64,
@@ -115,7 +117,7 @@ impl Semaphore {
     }
 }
 
-#[derive(Drop)]
+#[derive(Clone, Copy)]
 pub struct Mutex {
     pub owner: u64,
     pub count: u64,
@@ -172,7 +174,7 @@ impl Mutex {
     }
 }
 
-#[derive(Drop)]
+#[derive(Clone, Copy)]
 pub struct Event {
     pub signaled: u64,
     pub manual: u64,

@@ -1,11 +1,13 @@
 // One line of a lent text, read at a position. This crate knows no tables.
+#![tactic(auto)]
+
 ghost use Rattle.std.specs.Prelude.{◌≡◌, ◌+◌, ◌*◌, ◌/◌, ◌<◌, ◌≤◌, false, [], length, drop, nat_lt};
 ghost use Rattle.lines.specs.Outcome.{leads, figure, end_of, number_of, either_of, Outcome};
 
 use std::num::wrapping_sub_u64;
 
 // A line as due: the position after it, and its value. Else the position where it begins.
-#[derive(Drop)]
+#[derive(Clone, Copy)]
 pub struct Line {
     pub ok: bool,
     pub at: usize,

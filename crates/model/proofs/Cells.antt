@@ -1,6 +1,6 @@
 -- The laws of the layout: what stands in a cell, what a store makes of the state, and that valid states are what their
 -- tables show.
-use mathlib.Core.Path.{◌≡◌, refl, ap, sym, ◌∙◌}
+use mathlib.Core.Path.{◌≡◌, refl, ap, sym, ◌∙◌, subst}
 use mathlib.Core.Bool.{Bool, true, false, not, cond}
 use mathlib.Core.List.{List, [], ◌∷◌, ◌++◌, append_assoc}
 use mathlib.Core.Logic.{inl, inr, ⊎_elim}
@@ -243,7 +243,7 @@ dequeue_at [] p w a e = refl
 dequeue_at (free ∷ ws) zero w a e = differ (cc)
 dequeue_at (waiting v ∷ ws) zero w a e = let q : v ≡ w = cc in let r = and_split (not (any_waiting (λ u. eqb u.ticket v.ticket) ws)) (distinct_tickets ws) a in
     let k : dequeue v.ticket ws ≡ ws = dequeue_none v.ticket ws (λ u m i. eqb-false _ _ (waiting_none (λ u. eqb u.ticket v.ticket) ws (not-true _ r.0) u m) i) in
-    rw (← q, eqb_same v.ticket, k)
+    subst (λ (u : Wait). dequeue u.ticket (waiting v ∷ ws) ≡ set (waiting v ∷ ws) 0 free) q (rw (eqb_same v.ticket, k))
 dequeue_at (free ∷ ws) (suc p) w a e = ap (λ (l : List WaitPlace). free ∷ l) (dequeue_at ws p w a e)
 dequeue_at (waiting v ∷ ws) (suc p) w a e = let r = and_split (not (any_waiting (λ u. eqb u.ticket v.ticket) ws)) (distinct_tickets ws) a in
     let m : w is_in ws = at_in ws p w e in

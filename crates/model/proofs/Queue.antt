@@ -159,7 +159,7 @@ pub unconcerned : (cs : List ℕ) (w : Wait) → concerned_by cs w ≡ false →
 unfolding concerned_by member
 unconcerned [] w n k i = refl
 unconcerned (c ∷ cs) w n k i = let r = or_split (member c (named_by w)) (concerned_by cs w) n in
-    let d : eqb k c ≡ false = by_bool (eqb k c) (λ t. clash (let z = eqb-true k c t in rw (← z) i) r.0) (λ f. f) in rw (d, unconcerned cs w r.1 k i)
+    let d : eqb k c ≡ false = by_bool (eqb k c) (λ t. clash (subst (λ (x : ℕ). member x (named_by w) ≡ true) (eqb-true k c t) i) r.0) (λ f. f) in rw (d, unconcerned cs w r.1 k i)
 
 pub concerned_one : (h : ℕ) (w : Wait) → concerned_by (h ∷ []) w ≡ false → member h (named_by w) ≡ false
 unfolding concerned_by

@@ -35,7 +35,7 @@ valid_at (x ∷ xs) e (suc (suc i)) = valid_at xs (and_split (valid_object x) (a
 at_valid : (os : List Object) → ((h : ℕ) → valid_object (object_at os h) ≡ true) → all_of (map valid_object os) ≡ true
 unfolding all_of
 at_valid [] f = refl
-at_valid (x ∷ xs) f = rw (f 1, at_valid xs (λ h. elim h [ zero ↦ refl | suc i ↦ f (suc (suc i)) ]))
+at_valid (x ∷ xs) f = rw (f 1, at_valid xs (λ h. elim h as (λ k. valid_object (object_at xs k) ≡ true) [ zero ↦ refl | suc i ↦ f (suc (suc i)) ]))
 
 pub test_valid : (s : State) → valid_state s ≡ true → Valid s
 test_valid s e = let (t0, (t1, (t2, (t3, (t4, (t5, (t6, (t7, t8)))))))) = passed _ e in record {

@@ -1,1 +1,2 @@
 // The written meaning: definitions in specs/, laws and theorems in proofs/. This crate has no code.
+#![tactic(auto)]

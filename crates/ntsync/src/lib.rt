@@ -1,6 +1,7 @@
 // The public calls for Rattle callers (document 01), each by its family's crate. Nothing is required of a caller: any
 // tables, any numbers. Each contract is one equation with the meaning: the answer, the numbers with it and every cell.
 // A caller's line in crates.txt names this crate, and beside it the crate of each struct that it is handed.
+#![tactic(auto)]
 
 // ---- making tables and objects
 pub use ntsync_objects::{Created, create_event, create_mutex, create_sem, init};

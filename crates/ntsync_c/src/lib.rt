@@ -1,5 +1,7 @@
 // The C interface (include/ntsync.h): each public call under its C name, with the same equation. A slice is a pointer
 // and its number of elements.
+#![tactic(auto)]
+
 ghost use Rattle.std.specs.Prelude.{◌≡◌, [], ◌∷◌};
 ghost use Rattle.model.specs.Calls.{create, close, reset_event, read, signal, cancel, snapshot, wait, expire};
 ghost use Rattle.model.specs.Calls.{post, unlock, kill, set_event, pulse_event, a_semaphore, a_mutex, an_event};

@@ -1,4 +1,6 @@
 // The public calls that change and wake nobody: closing an object, resetting an event, cancelling a wait.
+#![tactic(auto)]
+
 ghost use Rattle.std.specs.Prelude.{◌≡◌, [], ◌∷◌};
 ghost use Rattle.model.specs.Calls.{close, reset_event, cancel, nothing_lent, asks};
 ghost use Rattle.model.specs.Steps.{table_step, seen, sees};

@@ -1,5 +1,7 @@
 // The calls that wake once more, each handing out the filled front of the caller's own wake list, empty after a
 // refusal; `result` gets the answer, the number handed back and the number of records.
+#![tactic(auto)]
+
 ghost use Rattle.std.specs.Prelude.{◌≡◌, length, take, ◌*◌, ◌≤◌};
 ghost use Rattle.model.specs.Calls.{signal, expire, post, unlock, kill, set_event, pulse_event, wake_lent, asks};
 ghost use Rattle.model.specs.Steps.{table_step, handed, hands};

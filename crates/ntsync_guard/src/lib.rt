@@ -1,4 +1,6 @@
 // What the public calls share: the answers of the first two tests, and the two tests of the calls that wake.
+#![tactic(auto)]
+
 ghost use Rattle.std.specs.Prelude.{◌≡◌, cond, length, ltb};
 ghost use Rattle.model.specs.Sizes.{wake_length};
 ghost use Rattle.cells.specs.Validity.{valid_cells};

@@ -1,4 +1,6 @@
 // The public calls that make: tables, and objects in them.
+#![tactic(auto)]
+
 ghost use Rattle.std.specs.Prelude.{◌≡◌, [], ◌∷◌, not};
 ghost use Rattle.model.specs.Calls.{create, a_semaphore, a_mutex, an_event, nothing_lent, asks};
 ghost use Rattle.model.specs.Steps.{table_step, make_tables, seen, sees};
@@ -10,7 +12,7 @@ use kinds::{Creation, Event, Mutex, Semaphore};
 use ntsync_guard::CORRUPT;
 
 #[repr(C)]
-#[derive(Drop)]
+#[derive(Clone, Copy)]
 pub struct Created {
     pub answer: u32,
     pub handle: u32,

@@ -1,4 +1,6 @@
 // The public reads: an object's numbers, by its kind.
+#![tactic(auto)]
+
 ghost use Rattle.std.specs.Prelude.{◌≡◌, [], ◌∷◌};
 ghost use Rattle.model.specs.Calls.{read, a_semaphore, a_mutex, an_event, nothing_lent, asks};
 ghost use Rattle.model.specs.Steps.{table_step, seen, sees};
@@ -6,7 +8,7 @@ ghost use Rattle.model.specs.Steps.{table_step, seen, sees};
 use ntsync_guard::CORRUPT;
 
 #[repr(C)]
-#[derive(Drop)]
+#[derive(Clone, Copy)]
 pub struct SemaphoreState {
     pub answer: u32,
     pub count: u32,
@@ -14,7 +16,7 @@ pub struct SemaphoreState {
 }
 
 #[repr(C)]
-#[derive(Drop)]
+#[derive(Clone, Copy)]
 pub struct MutexState {
     pub answer: u32,
     pub owner: u32,
@@ -22,7 +24,7 @@ pub struct MutexState {
 }
 
 #[repr(C)]
-#[derive(Drop)]
+#[derive(Clone, Copy)]
 pub struct EventState {
     pub answer: u32,
     pub signaled: u32,

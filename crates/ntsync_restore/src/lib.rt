@@ -1,5 +1,7 @@
 // The public call that reads a snapshot back. The text is read into tables of the call's own, so that a refusal leaves
 // the lent ones as they were.
+#![tactic(auto)]
+
 ghost use Rattle.std.specs.Prelude.{◌≡◌, not, [], ◌∷◌, replicate};
 ghost use Rattle.model.specs.Basics.{all_of};
 ghost use Rattle.model.specs.Calls.{nothing_lent};
@@ -14,7 +16,7 @@ use ntsync_guard::CORRUPT;
 pub const NOT_A_SNAPSHOT: u32 = 13;
 
 #[repr(C)]
-#[derive(Drop)]
+#[derive(Clone, Copy)]
 pub struct Restored {
     pub answer: u32,
     pub offset: u64,

@@ -1,4 +1,6 @@
 // The public calls that wake. Each tests tables and wake list (`refused`) before its own work.
+#![tactic(auto)]
+
 ghost use Rattle.std.specs.Prelude.{◌≡◌, [], ◌∷◌};
 ghost use Rattle.model.specs.Calls.{signal, expire, post, unlock, kill, set_event, pulse_event, wake_lent, asks};
 ghost use Rattle.model.specs.Steps.{table_step, seen, sees};

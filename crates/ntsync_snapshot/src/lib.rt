@@ -1,4 +1,6 @@
 // The public snapshot.
+#![tactic(auto)]
+
 ghost use Rattle.std.specs.Prelude.{◌≡◌, [], ◌∷◌};
 ghost use Rattle.model.specs.Calls.{snapshot, buffer_lent, asks};
 ghost use Rattle.model.specs.Steps.{table_step, seen, sees};
@@ -8,7 +10,7 @@ use ntsync_guard::{CORRUPT, LIST_SHORT};
 const SNAPSHOT_BUFFER: usize = 65536;
 
 #[repr(C)]
-#[derive(Drop)]
+#[derive(Clone, Copy)]
 pub struct Written {
     pub answer: u32,
     pub length: u32,

@@ -1,4 +1,6 @@
 // The public waits, for any and for all.
+#![tactic(auto)]
+
 ghost use Rattle.std.specs.Prelude.{◌≡◌, [], ◌∷◌};
 ghost use Rattle.model.specs.Calls.{wait, nothing_lent, asks};
 ghost use Rattle.model.specs.Steps.{table_step, seen, sees};
@@ -8,7 +10,7 @@ ghost use Rattle.cells.specs.Calls.{answered, wait_on_cells, guarded};
 use ntsync_guard::CORRUPT;
 
 #[repr(C)]
-#[derive(Drop)]
+#[derive(Clone, Copy)]
 pub struct Waited {
     pub answer: u32,
     pub index: u32,

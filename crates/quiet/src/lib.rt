@@ -1,4 +1,6 @@
 // Whether no queued wait could be served. Nothing is taken.
+#![tactic(auto)]
+
 ghost use Rattle.std.specs.Prelude.{◌≡◌, not, ◌<◌, length};
 ghost use Rattle.model.specs.Sizes.{wait_places};
 ghost use Rattle.model.specs.Layout.{table_length};

@@ -1,4 +1,6 @@
 // A snapshot's lines read back, at a position of a lent text, and stored into tables as they are read.
+#![tactic(auto)]
+
 ghost use Rattle.std.specs.Prelude.{◌≡◌, true, false, ◌≤◌, length, drop, take};
 ghost use Rattle.model.specs.Sizes.{object_places, wait_places, max_listed};
 ghost use Rattle.model.specs.Calls.{a_semaphore, a_mutex, an_event};
@@ -24,7 +26,7 @@ const MAX_64: u64 = 18446744073709551615;
 
 // ---- the values of an object, after its kind
 
-#[derive(Drop)]
+#[derive(Clone, Copy)]
 pub struct Values {
     pub ok: bool,
     pub at: usize,
@@ -184,7 +186,7 @@ fn read_values(text: &[u8], at: usize, kind: u64) -> Values
 
 // ---- an object with its handle
 
-#[derive(Drop)]
+#[derive(Clone, Copy)]
 pub struct Entry {
     pub ok: bool,
     pub at: usize,
@@ -235,7 +237,7 @@ fn read_object(text: &[u8], at: usize) -> Entry
 
 // ---- as many objects as counted, stored as they are read; whether their handles rise
 
-#[derive(Drop)]
+#[derive(Clone, Copy)]
 pub struct Listed {
     pub ok: bool,
     pub at: usize,
@@ -281,7 +283,7 @@ pub fn read_objects(text: &[u8], at: usize, n: u64, t: &mut [u64]) -> Listed
 
 // ---- a wait: its words, its header, its list into a lent one
 
-#[derive(Drop)]
+#[derive(Clone, Copy)]
 pub struct Header {
     pub ok: bool,
     pub at: usize,
@@ -414,7 +416,7 @@ pub fn read_waits(text: &[u8], at: usize, n: usize, t: &mut [u64]) -> Listed
 // ---- the whole text, into tables of zeros
 
 // Whether every line was as due; then whether all is in order: handles and tickets rise, the sum is right, no bytes are left.
-#[derive(Drop)]
+#[derive(Clone, Copy)]
 pub struct Parsed {
     pub ok: bool,
     pub at: usize,

@@ -1,5 +1,5 @@
 -- The snapshot's text read off the cells is the text of the state.
-use mathlib.Core.Path.{◌≡◌, refl, ap, sym, ◌∙◌}
+use mathlib.Core.Path.{◌≡◌, refl, ap, sym, ◌∙◌, subst}
 use mathlib.Core.Bool.{Bool, true, false, not, cond}
 use mathlib.Core.List.{List, [], ◌∷◌, ◌++◌, append_assoc, append-nil}
 use mathlib.Core.Option.{none, some}
@@ -125,7 +125,7 @@ one_counted [] w d m = absurd m
 one_counted (free ∷ ws) w d m = one_counted ws w d m
 one_counted (waiting u ∷ ws) w d m = let r = and_split (not (any_waiting (λ v. eqb v.ticket u.ticket) ws)) (distinct_tickets ws) d in
     let others : (v : Wait) → v is_in ws → eqb v.ticket u.ticket ≡ false = waiting_none (λ v. eqb v.ticket u.ticket) ws (not-true _ r.0) in ⊎_elim
-    (λ (e : w ≡ u). rw (e, eqb_same u.ticket, none_counted (λ v. eqb v.ticket u.ticket) ws others))
+    (λ (e : w ≡ u). subst (λ (x : Wait). count (λ v. eqb v.ticket x.ticket) (waiting u ∷ ws) ≡ 1) (sym e) (rw (eqb_same u.ticket, none_counted (λ v. eqb v.ticket u.ticket) ws others)))
     (λ (k : w is_in ws). let n : eqb u.ticket w.ticket ≡ false = ne_eqb u.ticket w.ticket (λ e. eqb-false w.ticket u.ticket (others w k) (sym e)) in rw n (one_counted ws w r.1 k)) m
 
 bits_above : (last t v : ℕ) → last < t → (last < v → t ≤ v) → bit (ltb last v) ≡ bit (eqb v t) + bit (ltb t v)

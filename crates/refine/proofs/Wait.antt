@@ -113,14 +113,14 @@ module _ (s : State) (g : Valid s) where
   abbrev free_test : ℕ → Bool
   free_test p = eqb (ticket_at (encode s) p) 0
 
-  free_test : (k : ℕ) → k < length s.waits → free_test (0 + k) ≡ is_free (get_or s.waits k free)
-  free_test k l = let q = g.slots in let m : k < wait_places = omega arith in rw (zero-add k) (by_place (get_or s.waits k free)
+  free_test_lem : (k : ℕ) → k < length s.waits → free_test (0 + k) ≡ is_free (get_or s.waits k free)
+  free_test_lem k l = let q = g.slots in let m : k < wait_places = omega arith in rw (zero-add k) (by_place (get_or s.waits k free)
       (λ e. let z = free_ticket s k g m e in rw (e, z))
       (λ w e. let n : eqb w.ticket 0 ≡ false = ne_eqb w.ticket 0 (λ z. let a : 0 < w.ticket = above_zero s k w g e in let y : ⊥ = omega arith in y) in rw (e, ticket_at_lem s k w (holds s k w g m e), n)))
 
   empty_full : ltb (empty_wait (encode s)) wait_places ≡ not (waits_full s.waits)
   unfolding ticket_place
-  empty_full = let q = g.slots in rw (search_full s.waits 0 free_test free_test, zero-add (length s.waits), q) (sym (not-not (ltb (search_from free_test 0 wait_places) wait_places)))
+  empty_full = let q = g.slots in rw (search_full s.waits 0 free_test free_test_lem, zero-add (length s.waits), q) (sym (not-not (ltb (search_from free_test 0 wait_places) wait_places)))
 
   empty_free : empty_wait (encode s) < wait_places → get_or s.waits (empty_wait (encode s)) free ≡ free
   unfolding ticket_place
@@ -130,7 +130,7 @@ module _ (s : State) (g : Valid s) where
 
   empty_enqueue : (w : Wait) → enqueue w s.waits ≡ set s.waits (empty_wait (encode s)) (waiting w)
   unfolding ticket_place
-  empty_enqueue w = let q = g.slots in search_enqueue w s.waits 0 free_test free_test
+  empty_enqueue w = let q = g.slots in search_enqueue w s.waits 0 free_test free_test_lem
       ∙ ap (λ (n : ℕ). set s.waits n (waiting w)) (let z : search_from free_test 0 (length s.waits) - 0 ≡ search_from free_test 0 (length s.waits) = omega arith in z ∙ ap (search_from free_test 0) q)
 
   queue_is : (w : Wait) → w.ticket ≡ s.next → empty_wait (encode s) < wait_places → length w.list ≤ max_listed

@@ -1,5 +1,7 @@
 // The calls that wake: an object's change is stored and the walk follows; and expire. Valid tables and a long enough wake list
 // are asked for: the public calls have tested both.
+#![tactic(auto)]
+
 ghost use Rattle.std.specs.Prelude.{◌≡◌, true, [], ◌≤◌, length};
 ghost use Rattle.model.specs.Sizes.{wake_length};
 ghost use Rattle.model.specs.Layout.{table_length};
@@ -14,7 +16,7 @@ use kinds::Change;
 
 // The answer, the number handed back, and how many records stand at the front of the wake list.
 #[repr(C)]
-#[derive(Drop)]
+#[derive(Clone, Copy)]
 pub struct Changed {
     pub answer: u32,
     pub previous: u32,

@@ -1,5 +1,7 @@
 // The snapshot's writer (01: the picture): objects by handle, waits by ticket. Each function asks for room for its text: the
 // public call has tested the buffer, and no snapshot of valid tables is longer (crates/model/proofs/SnapshotLength.antt).
+#![tactic(auto)]
+
 ghost use Rattle.std.specs.Prelude.{◌≡◌, cond, ◌<◌, ◌≤◌, length, eqb};
 ghost use Rattle.model.specs.Sizes.{object_places, wait_places};
 ghost use Rattle.model.specs.Layout.{table_length};

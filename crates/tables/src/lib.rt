@@ -1,4 +1,6 @@
 // The cells of the lent tables: objects and waits, read, written and searched. Only this crate knows where a cell stands.
+#![tactic(auto)]
+
 ghost use Rattle.std.specs.Prelude.{◌≡◌, ◌+◌, ◌≤◌, ◌<◌, length, get_or, take};
 ghost use Rattle.model.specs.Sizes.{object_places, wait_places, max_listed, word64};
 ghost use Rattle.model.specs.Layout.{object_size, header_size, wait_size, waits_base, table_length, in_wait};

@@ -1,4 +1,6 @@
 // The validity check (01: sound tables, else damaged): one pass over the objects, one over the waits.
+#![tactic(auto)]
+
 ghost use Rattle.std.specs.Prelude.{◌≡◌, true, ◌<◌, length};
 ghost use Rattle.model.specs.Basics.{all_of};
 ghost use Rattle.model.specs.Sizes.{object_places, wait_places};

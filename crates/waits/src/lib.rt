@@ -1,4 +1,6 @@
 // A fresh wait for any or for all: its refusals, one attempt, the time test, the queue.
+#![tactic(auto)]
+
 ghost use Rattle.std.specs.Prelude.{◌≡◌, [], ◌≤◌, length, take};
 ghost use Rattle.model.specs.Sizes.{max_listed};
 ghost use Rattle.model.specs.Calls.{nothing_lent};
@@ -9,7 +11,7 @@ ghost use Rattle.waits.specs.Values.{waited_by};
 // A next ticket that is never given.
 const SPENT: u64 = 18446744073709551615;
 
-#[derive(Drop)]
+#[derive(Clone, Copy)]
 pub struct Waited {
     pub answer: u32,
     pub index: u64,

@@ -1,4 +1,6 @@
 // The wake walk: the attempts of queued waits, lowest ticket first; those that are served leave and are told.
+#![tactic(auto)]
+
 ghost use Rattle.std.specs.Prelude.{◌≡◌, ◌≤◌, ◌<◌, length};
 ghost use Rattle.model.specs.Sizes.{wait_places, wake_length};
 ghost use Rattle.model.specs.Layout.{table_length};
@@ -11,7 +13,7 @@ ghost use Rattle.walk.specs.Values.{try_by};
 use attempt::Attempted;
 
 // How a queued wait is tried.
-#[derive(Drop)]
+#[derive(Clone, Copy)]
 enum By {
     Any,
     Alert,
