@@ -103,7 +103,7 @@ def files():
     for pattern in ("crates/*/specs/*.antt", "crates/*/proofs/*.antt"):
         for p in glob.glob(pattern):
             yield p, respell
-    for p in glob.glob("crates/*/proofs/*/*.antt"):
+    for p in glob.glob("crates/*/proofs/*/**/*.antt", recursive=True):
         yield p, in_walk
     for pattern in ("crates/*/src/**/*.rt", "crates/*/must-fail/*.edit"):
         for p in glob.glob(pattern, recursive=True):
