@@ -2,7 +2,7 @@
 use Prim.Native.Nat.{◌-◌}
 use lib.ListN.{length}
 use borrow.Author.Rules.{rules}
-use Rattle.call_lines.proofs.Laws.{Passed, passed_none, passed-more, all-kept, one-altered}
+use Rattle.call_lines.proofs.Laws.{Passed, passed_none, passed_more, all_kept, one_altered}
 use Rattle.call_lines.proofs.woken.is_untouched.Statement.{statement}
 use Rattle.call_lines.proofs.woken.is_untouched.Tie as tie
 use Rattle.call_lines.proofs.woken.is_untouched.Reads as reads
@@ -24,7 +24,7 @@ shared-slice-read-if1 : tie.Need-shared-slice-read-if1 invariant-loop decreases-
 shared-slice-read-if1 c = search rules
 
 returns : tie.Need-returns invariant-loop decreases-loop
-returns c = one-altered c.before.before.before.loop.invariant c.before.before.loop-test.true c.if1.true
+returns c = one_altered c.before.before.before.loop.invariant c.before.before.loop-test.true c.if1.true
 
 add-i : tie.Need-overflow-add-i invariant-loop decreases-loop
 add-i c = search rules
@@ -33,10 +33,10 @@ loop-less : tie.Need-loop-smaller invariant-loop decreases-loop
 loop-less c = search rules
 
 loop-again : tie.Need-loop-preserved invariant-loop decreases-loop
-loop-again c = passed-more c.before.before.before.loop.invariant c.if1.false
+loop-again c = passed_more c.before.before.before.loop.invariant c.if1.false
 
 returns-2 : tie.Need-returns-2 invariant-loop decreases-loop
-returns-2 c = all-kept c.before.loop.invariant c.loop-test.false
+returns-2 c = all_kept c.before.loop.invariant c.loop-test.false
 
 pub is-untouched-spec : {M : Type 1} → statement M
 is-untouched-spec =

@@ -3,7 +3,7 @@ use borrow.Author.Rules.{rules}
 use Prim.Native.Nat.{ℕ, ◌≤◌, ◌-◌}
 use lib.ListN.{length, length-set}
 use mathlib.Core.Path.{◌≡◌}
-use Rattle.model.specs.Sizes.{objectPlaces}
+use Rattle.model.specs.Sizes.{object_places}
 use Rattle.cases_objects.proofs.full.create_all.Statement.{statement}
 use Rattle.cases_objects.proofs.full.create_all.Tie as tie
 use Rattle.cases_objects.proofs.full.create_all.Reads as reads
@@ -11,10 +11,10 @@ use Rattle.cases_objects.proofs.full.create_all.Lts as lts
 use Rattle.cases_objects.proofs.full.create_some.Reads as create-some-reads
 
 abbrev invariant-loop : tie.invariant-loop
-invariant-loop t₀ i₀ t i = i ≤ objectPlaces
+invariant-loop t₀ i₀ t i = i ≤ object_places
 
 abbrev decreases-loop : tie.decreases-loop
-decreases-loop t₀ i₀ t i = objectPlaces - i
+decreases-loop t₀ i₀ t i = object_places - i
 
 loop-holds : tie.Need-loop-init invariant-loop decreases-loop
 loop-holds c = search rules

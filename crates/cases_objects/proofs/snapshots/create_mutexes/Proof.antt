@@ -1,17 +1,17 @@
 use native.Mathlib.Omega.{arith}
 use borrow.Author.Rules.{rules}
 use Prim.Native.Nat.{ℕ, ◌≤◌, ◌-◌}
-use Rattle.model.specs.Sizes.{objectPlaces}
+use Rattle.model.specs.Sizes.{object_places}
 use Rattle.cases_objects.proofs.snapshots.create_mutexes.Statement.{statement}
 use Rattle.cases_objects.proofs.snapshots.create_mutexes.Tie as tie
 use Rattle.cases_objects.proofs.snapshots.create_mutexes.Reads as reads
 use Rattle.cases_objects.proofs.snapshots.create_mutexes.Lts as lts
 
 abbrev invariant-loop : tie.invariant-loop
-invariant-loop t₀ i₀ t i = i ≤ objectPlaces - 1
+invariant-loop t₀ i₀ t i = i ≤ object_places - 1
 
 abbrev decreases-loop : tie.decreases-loop
-decreases-loop t₀ i₀ t i = objectPlaces - 1 - i
+decreases-loop t₀ i₀ t i = object_places - 1 - i
 
 loop-holds : tie.Need-loop-init invariant-loop decreases-loop
 loop-holds c = search rules

@@ -1,5 +1,5 @@
 use mathlib.Core.Path.{◌∙◌}
-use Rattle.model.specs.Calls.{anEvent}
+use Rattle.model.specs.Calls.{an_event}
 use Rattle.kinds.proofs.Laws.{created}
 use native.Mathlib.Omega.{arith}
 use borrow.Author.Rules.{rules}
@@ -29,7 +29,7 @@ only-if-requires c κs = search rules
 
 returns : tie.Need-returns
 returns c = let a = c.before.before.before.before.before.args in let s = c.before.before.before.before.flag.ensures in let m = c.before.before.before.flag2.ensures in
-    created anEvent a.signaled a.manual (omega arith) (omega arith) (rw (s, m) at c.before.before.valid.ensures) (rw (s, m) at c.before.object.ensures) c.only_if.ensures.0 c.only_if.ensures.1
+    created an_event a.signaled a.manual (omega arith) (omega arith) (rw (s, m) at c.before.before.valid.ensures) (rw (s, m) at c.before.object.ensures) c.only_if.ensures.0 c.only_if.ensures.1
 
 pub create-spec : {M : Type 1} → statement M
 create-spec = tie.close (tie.spec flag-requires flag-requires-2 valid-requires object-requires only-if-requires returns)

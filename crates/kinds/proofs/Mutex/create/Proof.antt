@@ -1,4 +1,4 @@
-use Rattle.model.specs.Calls.{aMutex}
+use Rattle.model.specs.Calls.{a_mutex}
 use Rattle.kinds.proofs.Laws.{created}
 use native.Mathlib.Omega.{arith}
 use borrow.Author.Rules.{rules}
@@ -20,7 +20,7 @@ only-if-requires : tie.Need-only-if-requires
 only-if-requires c κs = search rules
 
 returns : tie.Need-returns
-returns c = let a = c.before.before.before.args in created aMutex a.owner a.count (omega arith) (omega arith) c.before.before.valid.ensures c.before.object.ensures c.only_if.ensures.0 c.only_if.ensures.1
+returns c = let a = c.before.before.before.args in created a_mutex a.owner a.count (omega arith) (omega arith) c.before.before.valid.ensures c.before.object.ensures c.only_if.ensures.0 c.only_if.ensures.1
 
 pub create-spec : {M : Type 1} → statement M
 create-spec = tie.close (tie.spec valid-requires object-requires only-if-requires returns)

@@ -1,6 +1,6 @@
 use Rattle.kinds.specs.Values.{cells_of}
-use Rattle.kinds.proofs.Laws.{held-refused, held-done}
-use Rattle.cells.specs.Objects.{killFields}
+use Rattle.kinds.proofs.Laws.{held_refused, held_done}
+use Rattle.cells.specs.Objects.{kill_fields}
 use borrow.Author.Rules.{rules}
 use Rattle.kinds.proofs.Object.kill.Statement.{statement}
 use Rattle.kinds.proofs.Object.kill.Tie as tie
@@ -12,12 +12,12 @@ held-by-requires : tie.Need-held-by-requires
 held-by-requires c κs = search rules
 
 returns : tie.Need-returns
-unfolding killFields
-returns c = held-refused c.before.before.args.asking _ _ c.before.held_by.ensures c.if1.true
+unfolding kill_fields
+returns c = held_refused c.before.before.args.asking _ _ c.before.held_by.ensures c.if1.true
 
 returns-2 : tie.Need-returns-2
-unfolding killFields
-returns-2 c = held-done c.before.before.args.asking (cells_of c.before.before.args.self) _ c.before.held_by.ensures c.if1.false
+unfolding kill_fields
+returns-2 c = held_done c.before.before.args.asking (cells_of c.before.before.args.self) _ c.before.held_by.ensures c.if1.false
 
 pub kill-spec : {M : Type 1} → statement M
 kill-spec = tie.close (tie.spec held-by-requires returns returns-2)

@@ -1,5 +1,5 @@
 use mathlib.Core.Path.{refl}
-use Rattle.cells.specs.Objects.{switchFields}
+use Rattle.cells.specs.Objects.{switch_fields}
 use borrow.Author.Tests.{ne_eqb}
 use Rattle.kinds.proofs.Object.switch.Statement.{statement}
 use Rattle.kinds.proofs.Object.switch.Tie as tie
@@ -7,11 +7,11 @@ use Rattle.kinds.proofs.Object.switch.Reads as reads
 use Rattle.kinds.proofs.Object.switch.Lts as lts
 
 returns : tie.Need-returns
-unfolding switchFields
+unfolding switch_fields
 returns c = rw (ne_eqb _ 3 c.if1.true) refl
 
 returns-2 : tie.Need-returns-2
-unfolding switchFields
+unfolding switch_fields
 returns-2 c = rw c.if1.false refl
 
 pub switch-spec : {M : Type 1} → statement M

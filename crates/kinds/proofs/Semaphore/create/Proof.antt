@@ -1,4 +1,4 @@
-use Rattle.model.specs.Calls.{aSemaphore}
+use Rattle.model.specs.Calls.{a_semaphore}
 use Rattle.kinds.proofs.Laws.{created}
 use native.Mathlib.Omega.{arith}
 use borrow.Author.Rules.{rules}
@@ -20,7 +20,7 @@ only-if-requires : tie.Need-only-if-requires
 only-if-requires c κs = search rules
 
 returns : tie.Need-returns
-returns c = let a = c.before.before.before.args in created aSemaphore a.count a.max (omega arith) (omega arith) c.before.before.valid.ensures c.before.object.ensures c.only_if.ensures.0 c.only_if.ensures.1
+returns c = let a = c.before.before.before.args in created a_semaphore a.count a.max (omega arith) (omega arith) c.before.before.valid.ensures c.before.object.ensures c.only_if.ensures.0 c.only_if.ensures.1
 
 pub create-spec : {M : Type 1} → statement M
 create-spec = tie.close (tie.spec valid-requires object-requires only-if-requires returns)
