@@ -1,0 +1,27 @@
+use Rattle.tables.proofs.Laws.{object_empty, object_full}
+use Rattle.cells.specs.Calls.{empty_object}
+use Rattle.cells.specs.Objects.{fields_at}
+use Rattle.kinds.specs.Values.{cells_of}
+use Rattle.model.specs.Sizes.{object_places}
+use Rattle.cells.proofs.Fold.{search_found, search_on, search_end}
+use Rattle.cells.specs.Fold.{search_from}
+use lib.Dec.{eqb}
+use mathlib.Core.Path.{◌≡◌, refl, sym, ◌∙◌}
+use mathlib.Core.List.{List}
+use Prim.Native.Nat.{ℕ, ◌≤◌, ◌-◌}
+use native.Mathlib.Omega.{arith}
+use borrow.Author.Rules.{rules}
+use Rattle.tables.proofs.empty_object.Goals as goal
+
+pub loop-p-init : goal.loop-p-init
+unfolding empty_object
+loop-p-init c = (search rules, refl)
+
+pub returns-then-o-eq0 : goal.returns-then-o-eq0
+returns-then-o-eq0 c = sym (c.loop-p.invariant.1 ∙ search_found (λ q. eqb (fields_at c.args.t.now q).kind 0) c.loop-p.p object_places c.loop-p-test.true (object_empty c.args.t.now c.loop-p.p (cells_of c.object_at-o.result) c.object_at-o.ensures c.if-o-eq0.true))
+
+pub loop-p-preserved : goal.loop-p-preserved
+loop-p-preserved c = (search rules, c.loop-p.invariant.1 ∙ search_on (λ q. eqb (fields_at c.args.t.now q).kind 0) c.loop-p.p object_places c.loop-p-test.true (object_full c.args.t.now c.loop-p.p (cells_of c.object_at-o.result) c.object_at-o.ensures c.if-o-eq0.false))
+
+pub returns : goal.returns
+returns c = sym (c.loop-p.invariant.1 ∙ search_end (λ q. eqb (fields_at c.args.t.now q).kind 0) c.loop-p.p object_places c.loop-p-test.false)

@@ -1,0 +1,13 @@
+use Rattle.tables.proofs.Laws.{count_le, list_part}
+use native.Mathlib.Omega.{arith}
+use borrow.Author.Rules.{rules}
+use Rattle.tables.proofs.list_of.Goals as goal
+
+pub overflow_add-end : goal.overflow_add-end
+overflow_add-end c = omega (arith, count_le c.args.t.now c.args.p)
+
+pub slice_bounds-result-end : goal.slice_bounds-result-end
+slice_bounds-result-end c = omega (arith, count_le c.args.t.now c.args.p)
+
+pub returns : goal.returns
+returns c = list_part c.args.t.now c.args.p c.count_at-n.ensures

@@ -1,0 +1,9 @@
+use mathlib.Core.Path.{sym}
+use Rattle.cells.specs.Waits.{has, names_at}
+use native.Mathlib.Omega.{arith}
+use borrow.Author.Rules.{rules}
+use Rattle.tables.proofs.names_at.Goals as goal
+
+pub returns : goal.returns
+unfolding names_at
+returns c = rw (sym c.names_of-names.ensures) c.has.ensures

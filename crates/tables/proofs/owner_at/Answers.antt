@@ -1,0 +1,8 @@
+use Rattle.cells.specs.Waits.{owner_at}
+use native.Mathlib.Omega.{arith}
+use borrow.Author.Rules.{rules}
+use Rattle.tables.proofs.owner_at.Goals as goal
+
+pub returns : goal.returns
+unfolding owner_at
+returns c = search rules

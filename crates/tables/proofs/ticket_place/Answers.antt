@@ -1,0 +1,26 @@
+use borrow.Author.Tests.{eq-eqb, ne_eqb}
+use Rattle.cells.specs.Calls.{ticket_place}
+use Rattle.cells.specs.Waits.{ticket_at}
+use Rattle.model.specs.Sizes.{wait_places}
+use Rattle.cells.proofs.Fold.{search_found, search_on, search_end}
+use Rattle.cells.specs.Fold.{search_from}
+use lib.Dec.{eqb}
+use mathlib.Core.Path.{◌≡◌, refl, sym, ◌∙◌}
+use mathlib.Core.List.{List}
+use Prim.Native.Nat.{ℕ, ◌≤◌, ◌-◌}
+use native.Mathlib.Omega.{arith}
+use borrow.Author.Rules.{rules}
+use Rattle.tables.proofs.ticket_place.Goals as goal
+
+pub loop-p-init : goal.loop-p-init
+unfolding ticket_place
+loop-p-init c = (search rules, refl)
+
+pub returns-then-here-ticket : goal.returns-then-here-ticket
+returns-then-here-ticket c = let a = c.args in sym (c.loop-p.invariant.1 ∙ search_found (λ q. eqb (ticket_at a.t.now q) a.ticket) c.loop-p.p wait_places c.loop-p-test.true (rw (sym c.ticket_at-here.ensures) (eq-eqb _ _ c.if-here-ticket.true)))
+
+pub loop-p-preserved : goal.loop-p-preserved
+loop-p-preserved c = let a = c.args in (search rules, c.loop-p.invariant.1 ∙ search_on (λ q. eqb (ticket_at a.t.now q) a.ticket) c.loop-p.p wait_places c.loop-p-test.true (rw (sym c.ticket_at-here.ensures) (ne_eqb _ _ c.if-here-ticket.false)))
+
+pub returns : goal.returns
+returns c = let a = c.args in sym (c.loop-p.invariant.1 ∙ search_end (λ q. eqb (ticket_at a.t.now q) a.ticket) c.loop-p.p wait_places c.loop-p-test.false)

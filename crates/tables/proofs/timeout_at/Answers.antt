@@ -1,0 +1,8 @@
+use Rattle.cells.specs.Waits.{timeout_at}
+use native.Mathlib.Omega.{arith}
+use borrow.Author.Rules.{rules}
+use Rattle.tables.proofs.timeout_at.Goals as goal
+
+pub returns : goal.returns
+unfolding timeout_at
+returns c = search rules
