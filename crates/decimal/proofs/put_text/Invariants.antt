@@ -1,0 +1,14 @@
+use Rattle.decimal.proofs.Laws.{wrote_more, wrote_all}
+use lib.ListN.{length, take, length-set}
+use lib.Seq.{sets}
+use mathlib.Core.Path.{◌≡◌, refl}
+use Prim.Native.Nat.{◌≤◌, ◌-◌}
+use native.Mathlib.Omega.{arith}
+use borrow.Author.Rules.{rules}
+use Rattle.decimal.proofs.put_text.Given as goal
+
+abbrev pub invariant-loop-i : goal.invariant-loop-i
+invariant-loop-i l = (l.i ≤ length l.text) × (length l.buf ≡ length l.initial.buf) × (l.buf ≡ sets l.initial.buf l.at (take l.i l.text))
+
+abbrev pub decreases-loop-i : goal.decreases-loop-i
+decreases-loop-i l = length l.text - l.i
