@@ -1,0 +1,16 @@
+use Rattle.attempt.proofs.Laws.{SignaledIn, any_start, any_found, any_on, any_end}
+use Rattle.cells.specs.Attempt.{look_any}
+use Rattle.cells.specs.Fold.{search_from}
+use mathlib.Core.List.{List}
+use lib.ListN.{length}
+use mathlib.Core.Path.{◌≡◌, refl}
+use Prim.Native.Nat.{ℕ, ◌≤◌, ◌-◌}
+use native.Mathlib.Omega.{arith}
+use borrow.Author.Rules.{rules}
+use Rattle.attempt.proofs.look_any.Given as goal
+
+abbrev pub invariant-loop-i : goal.invariant-loop-i
+invariant-loop-i l = (l.i ≤ length l.list) × (look_any l.t l.asking l.list ≡ search_from (SignaledIn l.t l.asking l.list) l.i (length l.list - l.i))
+
+abbrev pub decreases-loop-i : goal.decreases-loop-i
+decreases-loop-i l = length l.list - l.i

@@ -1,0 +1,7 @@
+use Rattle.attempt.proofs.Laws.{taken}
+use native.Mathlib.Omega.{arith}
+use borrow.Author.Rules.{rules}
+use Rattle.attempt.proofs.take_one.Goals as goal
+
+pub returns : goal.returns
+returns c = let a = c.args in taken a.t.now a.asking a.h a.i c.acquire-dead.ensures.0 c.acquire-dead.ensures.1 c.answer_of-answer.ensures

@@ -1,0 +1,18 @@
+use Rattle.cells.specs.Validity.{alone_at}
+use Rattle.cells.specs.Waits.{ticket_at}
+use lib.Dec.{eqb}
+use Rattle.cells.proofs.Fold.{fold_none, fold_more}
+use Rattle.cells.specs.Fold.{all_below}
+use mathlib.Core.Bool.{Bool, true, not, ◌&&◌}
+use mathlib.Core.List.{List}
+use mathlib.Core.Path.{◌≡◌, refl, sym}
+use Prim.Native.Nat.{ℕ, ◌≤◌, ◌-◌}
+use native.Mathlib.Omega.{arith}
+use borrow.Author.Rules.{rules}
+use Rattle.validity.proofs.alone.Given as goal
+
+abbrev pub invariant-loop-q : goal.invariant-loop-q
+invariant-loop-q l = (l.q ≤ l.p) × (l.ok ≡ all_below (λ k. not (eqb (ticket_at l.t k) l.ticket)) l.q)
+
+abbrev pub decreases-loop-q : goal.decreases-loop-q
+decreases-loop-q l = l.p - l.q

@@ -1,0 +1,8 @@
+use Rattle.kinds.specs.Values.{cells_of}
+use Rattle.validity.proofs.Laws.{occupied_is}
+use native.Mathlib.Omega.{arith}
+use borrow.Author.Rules.{rules}
+use Rattle.validity.proofs.occupied.Goals as goal
+
+pub returns : goal.returns
+returns c = occupied_is c.args.t.now c.args.h (cells_of c.named-o.result) c.named-o.ensures

@@ -1,0 +1,20 @@
+use Rattle.cells.specs.Validity.{valid_place}
+use Rattle.model.specs.Sizes.{wait_places}
+use Rattle.cells.proofs.Fold.{fold_none, fold_more}
+use Rattle.cells.specs.Fold.{all_below}
+use mathlib.Core.Bool.{Bool, true, not, ◌&&◌}
+use mathlib.Core.List.{List}
+use mathlib.Core.Path.{◌≡◌, refl, sym}
+use Prim.Native.Nat.{ℕ, ◌≤◌, ◌-◌}
+use native.Mathlib.Omega.{arith}
+use borrow.Author.Rules.{rules}
+use Rattle.validity.proofs.valid_waits.Goals as goal
+
+pub loop-p-init : goal.loop-p-init
+loop-p-init c = (search rules, fold_none (λ (b : Bool) q. b && valid_place c.args.t.now q) true)
+
+pub loop-p-preserved : goal.loop-p-preserved
+loop-p-preserved c = let a = c.args in (search rules, cc (fold_more (λ (b : Bool) q. b && valid_place a.t.now q) true c.loop-p.p))
+
+pub returns : goal.returns
+returns c = let e : c.loop-p.p ≡ wait_places = omega arith in cc

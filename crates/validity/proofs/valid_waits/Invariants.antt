@@ -1,0 +1,17 @@
+use Rattle.cells.specs.Validity.{valid_place}
+use Rattle.model.specs.Sizes.{wait_places}
+use Rattle.cells.proofs.Fold.{fold_none, fold_more}
+use Rattle.cells.specs.Fold.{all_below}
+use mathlib.Core.Bool.{Bool, true, not, ◌&&◌}
+use mathlib.Core.List.{List}
+use mathlib.Core.Path.{◌≡◌, refl, sym}
+use Prim.Native.Nat.{ℕ, ◌≤◌, ◌-◌}
+use native.Mathlib.Omega.{arith}
+use borrow.Author.Rules.{rules}
+use Rattle.validity.proofs.valid_waits.Given as goal
+
+abbrev pub invariant-loop-p : goal.invariant-loop-p
+invariant-loop-p l = (l.p ≤ wait_places) × (l.ok ≡ all_below (valid_place l.t) l.p)
+
+abbrev pub decreases-loop-p : goal.decreases-loop-p
+decreases-loop-p l = wait_places - l.p
