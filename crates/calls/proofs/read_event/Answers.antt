@@ -1,0 +1,8 @@
+use Rattle.cells.specs.Calls.{read_cells}
+use native.Mathlib.Omega.{arith}
+use borrow.Author.Rules.{rules}
+use Rattle.calls.proofs.read_event.Goals as goal
+
+pub returns : goal.returns
+unfolding read_cells
+returns c = c.read_pair.ensures

@@ -1,0 +1,16 @@
+use Rattle.cells.specs.Waits.{ticket_at, better, lowest, next_wait}
+use lib.Dec.{ltb}
+use Rattle.ending.proofs.Laws.{lowest_start, lowest_more}
+use Rattle.cells.specs.Fold.{fold_below}
+use Rattle.model.specs.Sizes.{wait_places}
+use mathlib.Core.Path.{◌≡◌, ap}
+use Prim.Native.Nat.{ℕ, ◌≤◌, ◌-◌}
+use native.Mathlib.Omega.{arith}
+use borrow.Author.Rules.{rules}
+use Rattle.ending.proofs.next_wait.Given as goal
+
+abbrev pub invariant-loop-i : goal.invariant-loop-i
+invariant-loop-i l = (l.i ≤ wait_places) × (l.best ≡ fold_below (better l.t (λ k. ltb l.last (ticket_at l.t k))) wait_places l.i)
+
+abbrev pub decreases-loop-i : goal.decreases-loop-i
+decreases-loop-i l = wait_places - l.i

@@ -1,0 +1,15 @@
+use Rattle.tables.proofs.Laws.{copied}
+use Rattle.model.specs.Sizes.{max_listed}
+use lib.Seq.{take-length}
+use lib.ListN.{length, take, length-set}
+use mathlib.Core.Path.{◌≡◌, refl, sym, ◌∙◌}
+use Prim.Native.Nat.{ℕ, ◌≤◌, ◌-◌}
+use native.Mathlib.Omega.{arith}
+use borrow.Author.Rules.{rules}
+use Rattle.waits.proofs.widen.Given as goal
+
+abbrev pub invariant-loop-i : goal.invariant-loop-i
+invariant-loop-i l = (l.i ≤ length l.list) × (length l.wide ≡ max_listed) × (take l.i l.wide ≡ take l.i l.list)
+
+abbrev pub decreases-loop-i : goal.decreases-loop-i
+decreases-loop-i l = length l.list - l.i
