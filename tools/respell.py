@@ -21,6 +21,9 @@ FIELD = re.compile(r"^\s+(?:pub\s+)?(?P<name>[A-Za-z][\w'-]*)\s*(?:\{[^}]*\}\s*)
 # A lemma that would get the name of the function that it is about gets _lem, as in the kit's own library. These three had
 # that name from port.py on; in crate refine, and where it is imported from there, it is the lemma.
 LEMMAS = {"owner_at": "owner_at_lem", "count_at": "count_at_lem", "put_record": "put_record_lem"}
+# A lemma inside a module, of the same name as the definition that it imports.
+PLACES = [("crates/reader/proofs/Whole.antt", old, new) for old, new in (
+    ("  in_order : {sum", "  in_order_lem : {sum"), ("  in_order {sum} e =", "  in_order_lem {sum} e ="), (", in_order e)", ", in_order_lem e)"))]
 # Variables that many lines bind.
 VARIABLES = {"wakeUp": "wake_up"}
 # Modules with a name that Rattle makes itself.
@@ -157,6 +160,8 @@ def main(argv):
             changed += 1
             with open(path, "w", encoding="utf-8") as f:
                 f.write(now)
+    for path, old, text in PLACES:
+        edit(path, lambda t: t.replace(old, text))
     print(f"respell: {len(new)} names, {changed} files")
     return 0
 

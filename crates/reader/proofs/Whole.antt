@@ -147,10 +147,10 @@ module _ (text t₀ end : List ℕ) {ok₁ : Bool} {a₁ p₁ : ℕ} (n : Outcom
                   append_cancel_right (take rq.at text) (body_text lines) tail
                   (ap (λ (l : List ℕ). take rq.at text ++ l) (sym d) ∙ (take-append-drop rq.at text ∙ (w ∙ append_assoc (body_text lines) (line "sum=" a₆) (drop p₆ text))))
 
-              in_order : {sum : ℕ} → sum ≡ byte_sum (take rq.at text) % word32 → (((ro.rising && rq.rising) && eqb a₆ sum) && eqb p₆ (length text)) ≡ in_order lines (drop p₆ text)
+              in_order_lem : {sum : ℕ} → sum ≡ byte_sum (take rq.at text) % word32 → (((ro.rising && rq.rising) && eqb a₆ sum) && eqb p₆ (length text)) ≡ in_order lines (drop p₆ text)
               unfolding lines
-              in_order {sum} e = join4 listed_objects.order listed_waits.order (ap (eqb a₆) (e ∙ ap (λ (x : List ℕ). byte_sum x % word32) before_sum)) (ended text p₆ u.within)
+              in_order_lem {sum} e = join4 listed_objects.order listed_waits.order (ap (eqb a₆) (e ∙ ap (λ (x : List ℕ). byte_sum x % word32) before_sum)) (ended text p₆ u.within)
 
               pub all_good : (sum : ℕ) → sum ≡ byte_sum (take rq.at text) % word32 → ReadAll text t₀ (record { ok = true; at = p₆; fine = ((ro.rising && rq.rising) && eqb a₆ sum) && eqb p₆ (length text) }) t₂
               unfolding lines
-              all_good sum e = record { lines = rw read_well (refl, listed_waits.kept ∙ ap (λ (t : List ℕ). queued_from t 0 listed_waits.ws) listed_objects.kept, in_order e); within = u.within }
+              all_good sum e = record { lines = rw read_well (refl, listed_waits.kept ∙ ap (λ (t : List ℕ). queued_from t 0 listed_waits.ws) listed_objects.kept, in_order_lem e); within = u.within }
