@@ -1,0 +1,18 @@
+use borrow.Author.Tests.{not-true, not-false}
+use Prim.Native.Nat.{◌≤◌, ◌-◌}
+use mathlib.Core.Path.{◌≡◌, refl}
+use lib.ListN.{length, take, drop, length-set}
+use Rattle.model.specs.Sizes.{object_places}
+use Rattle.model.specs.Snapshot.{line}
+use Rattle.lines.specs.Outcome.{number_of}
+use Rattle.model.specs.Reading.{number_line, times}
+use Rattle.lines.proofs.Laws.{ahead, ahead_start, list_all, list_stop, list_more}
+use native.Mathlib.Omega.{arith}
+use borrow.Author.Rules.{rules}
+use Rattle.reader.proofs.read_list.Given as goal
+
+abbrev pub invariant-loop-i : goal.invariant-loop-i
+invariant-loop-i l = (l.i ≤ l.n) × (l.pos ≤ length l.text) × (length l.list ≡ length l.initial.list) × (times l.n (number_line "obj=" 1 object_places) (drop l.at l.text) ≡ ahead (take l.i l.list) (times (l.n - l.i) (number_line "obj=" 1 object_places) (drop l.pos l.text)))
+
+abbrev pub decreases-loop-i : goal.decreases-loop-i
+decreases-loop-i l = l.n - l.i
