@@ -1,0 +1,16 @@
+use Rattle.snapshot.proofs.Laws.{one_low, counted, counted_more, counted_none}
+use lib.Dec.{ltb}
+use Rattle.model.specs.Sizes.{object_places}
+use mathlib.Core.Path.{◌≡◌, ap}
+use Prim.Native.Nat.{ℕ, ◌-◌, ◌≤◌}
+use Rattle.cells.specs.Snapshot.{object_total}
+use Rattle.cells.specs.Objects.{Fields, fields_at}
+use native.Mathlib.Omega.{arith}
+use borrow.Author.Rules.{rules}
+use Rattle.snapshot.proofs.object_total.Given as goal
+
+abbrev pub invariant-loop-p : goal.invariant-loop-p
+invariant-loop-p l = (l.p ≤ object_places) × (l.total ≤ l.p) × (l.total ≡ counted (λ i. ltb 0 (fields_at l.t i).kind) l.p)
+
+abbrev pub decreases-loop-p : goal.decreases-loop-p
+decreases-loop-p l = object_places - l.p

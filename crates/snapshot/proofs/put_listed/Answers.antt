@@ -1,0 +1,12 @@
+use Rattle.model.specs.Snapshot.{line}
+use native.Mathlib.Omega.{arith}
+use borrow.Author.Rules.{rules}
+use Rattle.snapshot.proofs.put_listed.Goals as goal
+
+pub put_line-requires : goal.put_line-requires
+unfolding line
+put_line-requires c = c.requires
+
+pub returns : goal.returns
+unfolding line
+returns c = c.put_line.ensures
