@@ -1,0 +1,8 @@
+use Rattle.model.specs.Calls.{an_event}
+use Rattle.ntsync_objects.proofs.Laws.{creates}
+use native.Mathlib.Omega.{arith}
+use borrow.Author.Rules.{rules}
+use Rattle.ntsync_objects.proofs.create_event.Goals as goal
+
+pub returns : goal.returns
+returns c = let a = c.args in creates an_event a.signaled a.manual a.tables.now (λ i. omega (arith, c.slice_known-1.given i)) c.create-new.ensures.ok c.create-new.ensures.object c.place-r.ensures
