@@ -89,6 +89,20 @@ def in_code(text, new):
     return "".join(p if i % 2 else respell(p, new) for i, p in enumerate(parts))
 
 
+def in_edit(text, new):
+    """A must-fail edit, which port.py leaves: names, and in texts of specs/ and proofs/ tight projections and primes too."""
+    lines = in_code(text, new).split("\n")
+    if any(re.match(r"file: (specs|proofs)/", l) for l in lines):
+        for i, line in enumerate(lines):
+            if line.startswith(("old: ", "new: ")):
+                line = line.replace("′", "'")
+                line = re.sub(r"\((\w+) \.(\w+)\)", r"\1.\2", line)
+                line = re.sub(r"(\w) \.(\w+)", r"\1.\2", line)
+                line = re.sub(r"(?<![\w\"])[a-z][a-z0-9]*(?:[A-Z][a-z0-9]*)+", lambda m: snake(m.group(0)), line)
+                lines[i] = line
+    return "\n".join(lines)
+
+
 def in_prose(text, new):
     return re.sub(r"`[^`\n]+`", lambda m: respell(m.group(0), new), text)
 
@@ -108,9 +122,10 @@ def files():
             yield p, respell
     for p in glob.glob("crates/*/proofs/*/**/*.antt", recursive=True):
         yield p, in_walk
-    for pattern in ("crates/*/src/**/*.rt", "crates/*/must-fail/*.edit"):
-        for p in glob.glob(pattern, recursive=True):
-            yield p, in_code
+    for p in glob.glob("crates/*/src/**/*.rt", recursive=True):
+        yield p, in_code
+    for p in glob.glob("crates/*/must-fail/*.edit"):
+        yield p, in_edit
     for pattern in ("*.md", "docs/*.md", "docs/howto/*.md", "tests/*.md", "bench/*.md", "hosts/**/*.md"):
         for p in glob.glob(pattern, recursive=True):
             if os.path.basename(p) not in ("PORT.md", "DECISIONS-OLD.md"):

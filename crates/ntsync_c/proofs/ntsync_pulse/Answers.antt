@@ -1,0 +1,5 @@
+use borrow.Author.Rules.{rules}
+use Rattle.ntsync_c.proofs.ntsync_pulse.Goals as goal
+
+pub returns : goal.returns
+returns c = c.pulse.ensures
