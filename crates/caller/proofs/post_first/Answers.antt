@@ -18,7 +18,15 @@ pub slice_bounds-part-end-2 : goal.slice_bounds-part-end-2
 slice_bounds-part-end-2 c = let a = c.args in sym (length-take-le (3 * c.post-r.result.woken) _ (front_room a.tables.now (asks (signal (post a.add) a.handle) (wake_lent a.wake.now)) c.post-r.ensures))
 
 pub returns-then-part-eq0 : goal.returns-then-part-eq0
-returns-then-part-eq0 c = let r = (let a = c.args in (first_none a.tables.now (asks (signal (post a.add) a.handle) (wake_lent a.wake.now)) c.post-r.ensures c.if-part-eq0.true, (ap (λ (s : Seen). s.lent.wake) c.post-r.ensures ∙ sym (take-append-drop (3 * c.post-r.result.woken) _), ap (λ (s : Seen). s.tables) c.post-r.ensures))) in record { first = r.0; cells = r.1; tables = r.2 }
+returns-then-part-eq0 c = let a = c.args in record {
+  first = first_none a.tables.now (asks (signal (post a.add) a.handle) (wake_lent a.wake.now)) c.post-r.ensures c.if-part-eq0.true;
+  cells = ap (λ (s : Seen). s.lent.wake) c.post-r.ensures ∙ sym (take-append-drop (3 * c.post-r.result.woken) _);
+  tables = ap (λ (s : Seen). s.tables) c.post-r.ensures;
+}
 
 pub returns : goal.returns
-returns c = let r = (let a = c.args in (first_some a.tables.now (asks (signal (post a.add) a.handle) (wake_lent a.wake.now)) c.post-r.ensures, (ap (λ (s : Seen). s.lent.wake) c.post-r.ensures ∙ sym (take-append-drop (3 * c.post-r.result.woken) _), ap (λ (s : Seen). s.tables) c.post-r.ensures))) in record { first = r.0; cells = r.1; tables = r.2 }
+returns c = let a = c.args in record {
+  first = first_some a.tables.now (asks (signal (post a.add) a.handle) (wake_lent a.wake.now)) c.post-r.ensures;
+  cells = ap (λ (s : Seen). s.lent.wake) c.post-r.ensures ∙ sym (take-append-drop (3 * c.post-r.result.woken) _);
+  tables = ap (λ (s : Seen). s.tables) c.post-r.ensures;
+}
