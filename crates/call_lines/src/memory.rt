@@ -3,6 +3,7 @@
 ghost use Rattle.std.specs.Prelude.{◌≡◌, true};
 
 use crate::print;
+use std::io;
 
 pub const TABLE_LENGTH: usize = 4321;
 
@@ -90,18 +91,20 @@ pub fn copy(from: &[u64], to: &mut [u64]) {
     put_row(to, 0, from);
 }
 
-pub fn altered(t: &[u64], before: &[u64]) {
+pub fn altered(rt: &impl Print, t: &[u64], before: &[u64]) -> io::Result<()> {
     if same(t, before) {
-        print::text(b" unaltered");
+        print::text(rt, b" unaltered")?;
     } else {
-        print::text(b" ALTERED");
+        print::text(rt, b" ALTERED")?;
     }
+    Ok(())
 }
 
 // Ends a line with whether a cell changed.
-pub fn verdict(t: &[u64], before: &[u64]) {
-    altered(t, before);
-    print::end();
+pub fn verdict(rt: &impl Print, t: &[u64], before: &[u64]) -> io::Result<()> {
+    altered(rt, t, before)?;
+    print::end(rt)?;
+    Ok(())
 }
 
 impl Tables {
@@ -113,10 +116,10 @@ impl Tables {
     }
 
     // Ends the line of a call that left these cells.
-    pub fn then(self, cells: Cells) -> Self {
+    pub fn then(self, rt: &impl Print, cells: Cells) -> io::Result<Self> {
         let before = self.cells;
-        verdict(&cells, &before);
-        Self { cells }
+        verdict(rt, &cells, &before)?;
+        Ok(Self { cells })
     }
 
     // What no call can write.

@@ -1,9 +1,12 @@
 // Tables that are not valid.
 #![tactic(auto)]
 
+use std::io;
+
 mod damage;
 
-pub fn cases() {
-    damage::cases();
-    damage::lengths();
+pub fn cases(rt: &impl Print) -> io::Result<()> {
+    damage::cases(rt)?;
+    damage::lengths(rt)?;
+    Ok(())
 }

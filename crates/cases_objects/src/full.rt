@@ -1,6 +1,7 @@
 // All 512 places in use, and numbers that are no handle.
 use call_lines::memory::{Cells, Tables};
 use call_lines::print;
+use std::io;
 
 const PLACES: u32 = 512;
 
@@ -31,57 +32,58 @@ fn create_all(t: &mut Cells) -> u32 {
     i
 }
 
-fn filled() -> Tables {
+fn filled(rt: &impl Print) -> io::Result<Tables> {
     let t = Tables::new();
     let mut cells = t.cells;
-    print::counted(b"created in a row:", create_all(&mut cells) as u64);
-    Tables { cells }
+    print::counted(rt, b"created in a row:", create_all(&mut cells) as u64)?;
+    Ok(Tables { cells })
 }
 
 // A bad argument is refused before the lack of room.
-fn no_room(t: Tables) -> Tables {
-    t.create_semaphore(1, 2)
-        .create_mutex(5, 2)
-        .create_event(1, 0)
-        .create_semaphore(2, 1)
-        .create_semaphore(0, 0)
-        .create_mutex(0, 1)
+fn no_room(rt: &impl Print, t: Tables) -> io::Result<Tables> {
+    t.create_semaphore(rt, 1, 2)?
+        .create_mutex(rt, 5, 2)?
+        .create_event(rt, 1, 0)?
+        .create_semaphore(rt, 2, 1)?
+        .create_semaphore(rt, 0, 0)?
+        .create_mutex(rt, 0, 1)
 }
 
-fn in_use(t: Tables) -> Tables {
-    t.read_semaphore(1)
-        .read_event(510)
-        .read_semaphore(511)
-        .read_mutex(512)
+fn in_use(rt: &impl Print, t: Tables) -> io::Result<Tables> {
+    t.read_semaphore(rt, 1)?
+        .read_event(rt, 510)?
+        .read_semaphore(rt, 511)?
+        .read_mutex(rt, 512)
 }
 
 // The handle is none, or the number of no object.
-fn no_handle(t: Tables, handle: u32) -> Tables {
-    t.read_semaphore(handle)
-        .read_mutex(handle)
-        .read_event(handle)
-        .reset(handle)
-        .close(handle)
+fn no_handle(rt: &impl Print, t: Tables, handle: u32) -> io::Result<Tables> {
+    t.read_semaphore(rt, handle)?
+        .read_mutex(rt, handle)?
+        .read_event(rt, handle)?
+        .reset(rt, handle)?
+        .close(rt, handle)
 }
 
 // Handle 511 is a semaphore, 512 a mutex and 510 an event.
-fn wrong_kind(t: Tables) -> Tables {
-    t.read_mutex(511)
-        .read_event(511)
-        .reset(511)
-        .read_semaphore(512)
-        .read_event(512)
-        .reset(512)
-        .read_semaphore(510)
-        .read_mutex(510)
+fn wrong_kind(rt: &impl Print, t: Tables) -> io::Result<Tables> {
+    t.read_mutex(rt, 511)?
+        .read_event(rt, 511)?
+        .reset(rt, 511)?
+        .read_semaphore(rt, 512)?
+        .read_event(rt, 512)?
+        .reset(rt, 512)?
+        .read_semaphore(rt, 510)?
+        .read_mutex(rt, 510)
 }
 
-pub fn cases() {
-    print::heading(b"all places in use");
-    let t = in_use(no_room(filled()));
-    let t = no_handle(t, 513);
-    let t = no_handle(t, 0);
-    let t = no_handle(t, 4294967295);
-    let t = wrong_kind(t).close(512);
-    no_handle(t, 512);
+pub fn cases(rt: &impl Print) -> io::Result<()> {
+    print::heading(rt, b"all places in use")?;
+    let t = in_use(rt, no_room(rt, filled(rt)?)?)?;
+    let t = no_handle(rt, t, 513)?;
+    let t = no_handle(rt, t, 0)?;
+    let t = no_handle(rt, t, 4294967295)?;
+    let t = wrong_kind(rt, t)?.close(rt, 512)?;
+    no_handle(rt, t, 512)?;
+    Ok(())
 }

@@ -1,6 +1,8 @@
 // The calls that neither wait nor wake: making, objects and handles at the borders of their numbers; the snapshot.
 #![tactic(auto)]
 
+use std::io;
+
 mod again;
 mod full;
 mod limits;
@@ -8,14 +10,16 @@ mod making;
 mod queued;
 mod snapshots;
 
-pub fn cases() {
-    making::cases();
-    full::cases();
-    limits::cases();
-    again::cases();
-    queued::cases();
+pub fn cases(rt: &impl Print) -> io::Result<()> {
+    making::cases(rt)?;
+    full::cases(rt)?;
+    limits::cases(rt)?;
+    again::cases(rt)?;
+    queued::cases(rt)?;
+    Ok(())
 }
 
-pub fn snapshot_cases() {
-    snapshots::cases();
+pub fn snapshot_cases(rt: &impl Print) -> io::Result<()> {
+    snapshots::cases(rt)?;
+    Ok(())
 }

@@ -1,44 +1,46 @@
 // What creating refuses and takes, at the borders of the numbers.
 use call_lines::memory::Tables;
 use call_lines::print;
+use std::io;
 
 const MOST: u32 = 4294967295;
 
-fn semaphores(t: Tables) -> Tables {
-    t.create_semaphore(2, 1)
-        .create_semaphore(1, 0)
-        .create_semaphore(0, 0)
-        .create_semaphore(MOST, MOST - 1)
-        .create_semaphore(MOST, MOST)
-        .read_semaphore(1)
-        .create_semaphore(0, 1)
-        .read_semaphore(2)
-        .create_semaphore(0, MOST)
-        .read_semaphore(3)
+fn semaphores(rt: &impl Print, t: Tables) -> io::Result<Tables> {
+    t.create_semaphore(rt, 2, 1)?
+        .create_semaphore(rt, 1, 0)?
+        .create_semaphore(rt, 0, 0)?
+        .create_semaphore(rt, MOST, MOST - 1)?
+        .create_semaphore(rt, MOST, MOST)?
+        .read_semaphore(rt, 1)?
+        .create_semaphore(rt, 0, 1)?
+        .read_semaphore(rt, 2)?
+        .create_semaphore(rt, 0, MOST)?
+        .read_semaphore(rt, 3)
 }
 
-fn mutexes(t: Tables) -> Tables {
-    t.create_mutex(0, 1)
-        .create_mutex(1, 0)
-        .create_mutex(0, MOST)
-        .create_mutex(MOST, 0)
-        .create_mutex(0, 0)
-        .read_mutex(4)
-        .create_mutex(MOST, MOST)
-        .read_mutex(5)
+fn mutexes(rt: &impl Print, t: Tables) -> io::Result<Tables> {
+    t.create_mutex(rt, 0, 1)?
+        .create_mutex(rt, 1, 0)?
+        .create_mutex(rt, 0, MOST)?
+        .create_mutex(rt, MOST, 0)?
+        .create_mutex(rt, 0, 0)?
+        .read_mutex(rt, 4)?
+        .create_mutex(rt, MOST, MOST)?
+        .read_mutex(rt, 5)
 }
 
 // A flag that is not zero counts as 1.
-fn events(t: Tables) -> Tables {
-    t.create_event(7, 0)
-        .read_event(6)
-        .create_event(0, 7)
-        .read_event(7)
-        .create_event(MOST, MOST)
-        .read_event(8)
+fn events(rt: &impl Print, t: Tables) -> io::Result<Tables> {
+    t.create_event(rt, 7, 0)?
+        .read_event(rt, 6)?
+        .create_event(rt, 0, 7)?
+        .read_event(rt, 7)?
+        .create_event(rt, MOST, MOST)?
+        .read_event(rt, 8)
 }
 
-pub fn cases() {
-    print::heading(b"what creating refuses and takes");
-    events(mutexes(semaphores(Tables::new())));
+pub fn cases(rt: &impl Print) -> io::Result<()> {
+    print::heading(rt, b"what creating refuses and takes")?;
+    events(rt, mutexes(rt, semaphores(rt, Tables::new())?)?)?;
+    Ok(())
 }

@@ -6,6 +6,7 @@ ghost use Rattle.call_lines.specs.Kept.{Kept};
 use call_lines::memory::{Cells, TABLE_LENGTH, Tables};
 use call_lines::waiting::NEVER;
 use call_lines::{memory, print};
+use std::io;
 
 // The shortest buffer that is taken.
 const BUFFER_LENGTH: usize = 65536;
@@ -32,130 +33,141 @@ fn is_kept(buffer: &[u8], from: usize) -> bool
     true
 }
 
-fn rest(buffer: &[u8], from: usize) {
+fn rest(rt: &impl Print, buffer: &[u8], from: usize) -> io::Result<()> {
     if is_kept(buffer, from) {
-        print::text(b" rest kept\n");
+        print::text(rt, b" rest kept\n")?;
     } else {
-        print::text(b" REST ALTERED\n");
+        print::text(rt, b" REST ALTERED\n")?;
     }
+    Ok(())
 }
 
 // The text as it stands in the buffer; a length past the buffer's end writes nothing, and the missing text would show.
-fn front(buffer: &[u8], length: usize) {
+fn front(rt: &impl Print, buffer: &[u8], length: usize) -> io::Result<()> {
     if length > buffer.len() {
-        return;
+        return Ok(());
     }
-    print::text(&buffer[..length]);
+    print::text(rt, &buffer[..length])?;
+    Ok(())
 }
 
 // The buffer's length, the answer and the text's length, which is handed back.
-fn snapshot(t: &[u64], buffer: &mut [u8]) -> usize {
-    print::text(b"snapshot into");
-    print::number(buffer.len() as u64);
-    print::text(b" bytes:");
+fn snapshot(rt: &impl Print, t: &[u64], buffer: &mut [u8]) -> io::Result<usize> {
+    print::text(rt, b"snapshot into")?;
+    print::number(rt, buffer.len() as u64)?;
+    print::text(rt, b" bytes:")?;
     let r = ntsync::snapshot(t, buffer);
-    print::two(r.answer, r.length);
-    r.length as usize
+    print::two(rt, r.answer, r.length)?;
+    Ok(r.length as usize)
 }
 
 // With the text itself, each of its lines a line of the output.
-fn shown(t: Tables) {
+fn shown(rt: &impl Print, t: Tables) -> io::Result<()> {
     let cells = t.cells;
     let mut buffer = [SENTINEL; BUFFER_LENGTH];
-    let length = snapshot(&cells, &mut buffer);
-    print::end();
-    front(&buffer, length);
-    print::text(b"behind the text:");
-    rest(&buffer, length);
+    let length = snapshot(rt, &cells, &mut buffer)?;
+    print::end(rt)?;
+    front(rt, &buffer, length)?;
+    print::text(rt, b"behind the text:")?;
+    rest(rt, &buffer, length)?;
+    Ok(())
 }
 
 // Without the text. After a refusal the length is 0, so that the whole buffer is looked at.
-fn measured(t: &[u64], buffer: &mut [u8]) {
-    let length = snapshot(t, buffer);
-    rest(buffer, length);
+fn measured(rt: &impl Print, t: &[u64], buffer: &mut [u8]) -> io::Result<()> {
+    let length = snapshot(rt, t, buffer)?;
+    rest(rt, buffer, length)?;
+    Ok(())
 }
 
 // Writes the first cell, because no program makes so many calls.
-fn put_next(t: Tables, ticket: u64) -> Tables {
-    print::counted(b"next ticket", ticket);
-    t.put(0, ticket)
+fn put_next(rt: &impl Print, t: Tables, ticket: u64) -> io::Result<Tables> {
+    print::counted(rt, b"next ticket", ticket)?;
+    Ok(t.put(0, ticket))
 }
 
 // ---- texts
 
 // P1 of document 01, which gives the whole text.
-fn first_reading() {
-    shown(Tables::new().put_shown());
+fn first_reading(rt: &impl Print) -> io::Result<()> {
+    shown(rt, Tables::new().put_shown(rt)?)?;
+    Ok(())
 }
 
 // Handle 2 is an abandoned mutex, 4 a held one, 3 empty between objects, 5 and 6 auto events.
-fn objects() -> Tables {
+fn objects(rt: &impl Print) -> io::Result<Tables> {
     Tables::new()
-        .create_semaphore(0, 3)
-        .create_mutex(5, 1)
-        .create_event(1, 1)
-        .create_mutex(8, CEILING)
-        .create_event(0, 0)
-        .create_event(1, 0)
-        .close(3)
-        .kill_owner(2, 5)
+        .create_semaphore(rt, 0, 3)?
+        .create_mutex(rt, 5, 1)?
+        .create_event(rt, 1, 1)?
+        .create_mutex(rt, 8, CEILING)?
+        .create_event(rt, 0, 0)?
+        .create_event(rt, 1, 0)?
+        .close(rt, 3)?
+        .kill_owner(rt, 2, 5)
 }
 
 // Freed places are taken again: in the order of places stand the tickets 6, 2, 7, none, 5.
-fn queued(t: Tables) -> Tables {
-    t.any(1, 9)
-        .wait_any(&[5, 4, 5], 10, 5, 1, 0, 100, 99)
-        .all_two(2, 1, 11)
-        .any(4, 12)
-        .wait_all(&[1, 4, 2], CEILING, 5, 0, 0, 1, 0)
-        .cancel(1)
-        .all(4, 13)
-        .cancel(3)
-        .any_until(5, 1, 1, NEVER - 1, 0)
-        .cancel(4)
+fn queued(rt: &impl Print, t: Tables) -> io::Result<Tables> {
+    t.any(rt, 1, 9)?
+        .wait_any(rt, &[5, 4, 5], 10, 5, 1, 0, 100, 99)?
+        .all_two(rt, 2, 1, 11)?
+        .any(rt, 4, 12)?
+        .wait_all(rt, &[1, 4, 2], CEILING, 5, 0, 0, 1, 0)?
+        .cancel(rt, 1)?
+        .all(rt, 4, 13)?
+        .cancel(rt, 3)?
+        .any_until(rt, 5, 1, 1, NEVER - 1, 0)?
+        .cancel(rt, 4)
 }
 
-fn every_line() {
-    shown(queued(objects()));
+fn every_line(rt: &impl Print) -> io::Result<()> {
+    shown(rt, queued(rt, objects(rt)?)?)?;
+    Ok(())
 }
 
 // ---- refusals
 
 // Under the least length. The text of newly made tables would fit into the last, which is refused all the same.
-fn into_shorter(t: &Cells) {
-    measured(t, &mut [SENTINEL; 0]);
-    measured(t, &mut [SENTINEL; 1]);
-    measured(t, &mut [SENTINEL; BUFFER_LENGTH - 1]);
+fn into_shorter(rt: &impl Print, t: &Cells) -> io::Result<()> {
+    measured(rt, t, &mut [SENTINEL; 0])?;
+    measured(rt, t, &mut [SENTINEL; 1])?;
+    measured(rt, t, &mut [SENTINEL; BUFFER_LENGTH - 1])?;
+    Ok(())
 }
 
-fn into_longer(t: &Cells) {
-    measured(t, &mut [SENTINEL; BUFFER_LENGTH + 1]);
-    measured(t, &mut [SENTINEL; 80000]);
+fn into_longer(rt: &impl Print, t: &Cells) -> io::Result<()> {
+    measured(rt, t, &mut [SENTINEL; BUFFER_LENGTH + 1])?;
+    measured(rt, t, &mut [SENTINEL; 80000])?;
+    Ok(())
 }
 
 // Damage is answered before a short buffer.
-fn of_corrupt() {
-    let t = put_next(Tables::new(), 0);
+fn of_corrupt(rt: &impl Print) -> io::Result<()> {
+    let t = put_next(rt, Tables::new(), 0)?;
     let cells = t.cells;
-    into_shorter(&cells);
-    measured(&cells, &mut [SENTINEL; BUFFER_LENGTH]);
-    into_longer(&cells);
+    into_shorter(rt, &cells)?;
+    measured(rt, &cells, &mut [SENTINEL; BUFFER_LENGTH])?;
+    into_longer(rt, &cells)?;
+    Ok(())
 }
 
-fn of_short() {
+fn of_short(rt: &impl Print) -> io::Result<()> {
     let mut t = [0u64; TABLE_LENGTH - 1];
     memory::put(&mut t, 0, 1);
-    print::text(b"one cell short\n");
-    measured(&t, &mut [SENTINEL; BUFFER_LENGTH - 1]);
-    measured(&t, &mut [SENTINEL; BUFFER_LENGTH]);
+    print::text(rt, b"one cell short\n")?;
+    measured(rt, &t, &mut [SENTINEL; BUFFER_LENGTH - 1])?;
+    measured(rt, &t, &mut [SENTINEL; BUFFER_LENGTH])?;
+    Ok(())
 }
 
-fn newly_made() {
+fn newly_made(rt: &impl Print) -> io::Result<()> {
     let t = Tables::new();
     let cells = t.cells;
-    shown(t);
-    into_shorter(&cells);
-    into_longer(&cells);
+    shown(rt, t)?;
+    into_shorter(rt, &cells)?;
+    into_longer(rt, &cells)?;
+    Ok(())
 }
 
 // ---- the longest text
@@ -173,36 +185,44 @@ fn create_mutexes(t: &mut Cells) -> u32 {
     i
 }
 
-fn full_mutexes() -> Tables {
+fn full_mutexes(rt: &impl Print) -> io::Result<Tables> {
     let t = Tables::new();
     let mut cells = t.cells;
     print::counted(
+        rt,
         b"full mutexes created in a row:",
         create_mutexes(&mut cells) as u64,
-    );
-    Tables { cells }
+    )?;
+    Ok(Tables { cells })
 }
 
 // Every number has as many digits as it can have; the event of handle 512 is every wait's alert and all of its list. The waits
 // spend the last 32 tickets.
-fn longest_text() -> Tables {
-    put_next(full_mutexes().create_event(0, 0), NEVER - 32).queue_many(&[512u32; 64], CEILING, 512)
+fn longest_text(rt: &impl Print) -> io::Result<Tables> {
+    put_next(rt, full_mutexes(rt)?.create_event(rt, 0, 0)?, NEVER - 32)?.queue_many(
+        rt,
+        &[512u32; 64],
+        CEILING,
+        512,
+    )
 }
 
 // 54,549 bytes, which as the length of a buffer are too few.
-fn longest() {
-    let t = longest_text();
+fn longest(rt: &impl Print) -> io::Result<()> {
+    let t = longest_text(rt)?;
     let cells = t.cells;
-    measured(&cells, &mut [SENTINEL; 54549]);
-    measured(&cells, &mut [SENTINEL; BUFFER_LENGTH]);
+    measured(rt, &cells, &mut [SENTINEL; 54549])?;
+    measured(rt, &cells, &mut [SENTINEL; BUFFER_LENGTH])?;
+    Ok(())
 }
 
-pub fn cases() {
-    print::heading(b"the picture");
-    first_reading();
-    every_line();
-    newly_made();
-    of_corrupt();
-    of_short();
-    longest();
+pub fn cases(rt: &impl Print) -> io::Result<()> {
+    print::heading(rt, b"the picture")?;
+    first_reading(rt)?;
+    every_line(rt)?;
+    newly_made(rt)?;
+    of_corrupt(rt)?;
+    of_short(rt)?;
+    longest(rt)?;
+    Ok(())
 }

@@ -4,6 +4,7 @@
 
 use call_lines::memory::{Cells, TABLE_LENGTH, Tables};
 use call_lines::{memory, print};
+use std::io;
 
 const BUFFER_LENGTH: usize = 65536;
 
@@ -26,30 +27,30 @@ fn written(cells: &Cells) -> Text {
 }
 
 // The text's length, the answer and the offset; whether a cell changed.
-fn read(t: Tables, text: &[u8]) -> Tables {
-    print::asked(b"restore bytes", text.len() as u64);
+fn read(rt: &impl Print, t: Tables, text: &[u8]) -> io::Result<Tables> {
+    print::asked(rt, b"restore bytes", text.len() as u64)?;
     let mut cells = t.cells;
     let r = ntsync::restore(&mut cells, text);
-    print::one(r.answer);
-    print::number(r.offset);
-    t.then(cells)
+    print::one(rt, r.answer)?;
+    print::number(rt, r.offset)?;
+    t.then(rt, cells)
 }
 
 // Of the first `length` bytes; a length past the end reads nothing, and the missing line would show.
-fn read_front(t: Tables, bytes: &[u8], length: usize) -> Tables {
+fn read_front(rt: &impl Print, t: Tables, bytes: &[u8], length: usize) -> io::Result<Tables> {
     if length > bytes.len() {
-        return t;
+        return Ok(t);
     }
-    read(t, &bytes[..length])
+    read(rt, t, &bytes[..length])
 }
 
-fn read_first(t: Tables, text: Text, length: usize) -> Tables {
+fn read_first(rt: &impl Print, t: Tables, text: Text, length: usize) -> io::Result<Tables> {
     let bytes = text.bytes;
-    read_front(t, &bytes, length)
+    read_front(rt, t, &bytes, length)
 }
 
-fn read_whole(t: Tables, text: Text) -> Tables {
-    read_first(t, text, text.length)
+fn read_whole(rt: &impl Print, t: Tables, text: Text) -> io::Result<Tables> {
+    read_first(rt, t, text, text.length)
 }
 
 // A byte past the end is not written.
@@ -69,13 +70,13 @@ fn with(text: Text, at: usize, byte: u8) -> Text {
 }
 
 // The text with one byte changed.
-fn read_changed(t: Tables, text: Text, at: usize, byte: u8) -> Tables {
-    print::text(b"byte");
-    print::number(at as u64);
-    print::text(b" becomes");
-    print::number(byte as u64);
-    print::text(b"; ");
-    read_whole(t, with(text, at, byte))
+fn read_changed(rt: &impl Print, t: Tables, text: Text, at: usize, byte: u8) -> io::Result<Tables> {
+    print::text(rt, b"byte")?;
+    print::number(rt, at as u64)?;
+    print::text(rt, b" becomes")?;
+    print::number(rt, byte as u64)?;
+    print::text(rt, b"; ")?;
+    read_whole(rt, t, with(text, at, byte))
 }
 
 // Tables whose cells are all 7: nothing of the contents matters.
@@ -86,100 +87,112 @@ fn unmade() -> Tables {
 }
 
 // The tables that a text of t gives, and whether they are t's own.
-fn read_back(t: Tables) -> Tables {
+fn read_back(rt: &impl Print, t: Tables) -> io::Result<Tables> {
     let cells = t.cells;
-    let back = read_whole(unmade(), written(&cells));
+    let back = read_whole(rt, unmade(), written(&cells))?;
     let again = back.cells;
-    print::text(b"the same cells:");
-    print::yes(memory::same(&again, &cells));
-    back
+    print::text(rt, b"the same cells:")?;
+    print::yes(rt, memory::same(&again, &cells))?;
+    Ok(back)
 }
 
 // ---- accepted
 
 // P1 of document 01, which goes on from its text as it would have: P2 wakes its wait.
-fn first_reading() -> Tables {
-    let t = Tables::new().put_shown();
-    read_back(t).set(2);
-    t
+fn first_reading(rt: &impl Print) -> io::Result<Tables> {
+    let t = Tables::new().put_shown(rt)?;
+    read_back(rt, t)?.set(rt, 2)?;
+    Ok(t)
 }
 
 // Waits in the places 2 and 3, of the tickets 2 and 3, come back in the places 1 and 2. Read again they stay there.
-fn placed() {
+fn placed(rt: &impl Print) -> io::Result<()> {
     let t = Tables::new()
-        .create_event(0, 0)
-        .any(1, 7)
-        .any(1, 8)
-        .any(1, 9)
-        .cancel(1);
-    let back = read_back(t);
-    read_back(back);
+        .create_event(rt, 0, 0)?
+        .any(rt, 1, 7)?
+        .any(rt, 1, 8)?
+        .any(rt, 1, 9)?
+        .cancel(rt, 1)?;
+    let back = read_back(rt, t)?;
+    read_back(rt, back)?;
+    Ok(())
 }
 
 // ---- refused
 
 // The text of 195 bytes ends where a line is due, within a line, and with a byte more.
-fn cut(t: Tables, text: Text) {
-    read_first(t, text, 0);
-    read_first(t, text, 6);
-    read_first(t, text, 97);
-    read_first(t, text, 100);
-    read_first(t, text, 185);
-    read_first(t, text, 194);
-    read_first(t, text, 196);
+fn cut(rt: &impl Print, t: Tables, text: Text) -> io::Result<()> {
+    read_first(rt, t, text, 0)?;
+    read_first(rt, t, text, 6)?;
+    read_first(rt, t, text, 97)?;
+    read_first(rt, t, text, 100)?;
+    read_first(rt, t, text, 185)?;
+    read_first(rt, t, text, 194)?;
+    read_first(rt, t, text, 196)?;
+    Ok(())
 }
 
-fn changed(t: Tables, text: Text) {
-    read_changed(t, text, 5, b'0');
-    read_changed(t, text, 15, b'3');
-    read_changed(t, text, 15, b'1');
-    read_changed(t, text, 24, b'0');
-    read_changed(t, text, 41, b'3');
-    read_changed(t, text, 47, b'9');
-    read_changed(t, text, 78, b'2');
-    read_changed(t, text, 87, b'0');
-    read_changed(t, text, 109, b'x');
-    read_changed(t, text, 140, b'2');
-    read_changed(t, text, 193, b'1');
-    read_changed(t, text, 194, b' ');
+fn changed(rt: &impl Print, t: Tables, text: Text) -> io::Result<()> {
+    read_changed(rt, t, text, 5, b'0')?;
+    read_changed(rt, t, text, 15, b'3')?;
+    read_changed(rt, t, text, 15, b'1')?;
+    read_changed(rt, t, text, 24, b'0')?;
+    read_changed(rt, t, text, 41, b'3')?;
+    read_changed(rt, t, text, 47, b'9')?;
+    read_changed(rt, t, text, 78, b'2')?;
+    read_changed(rt, t, text, 87, b'0')?;
+    read_changed(rt, t, text, 109, b'x')?;
+    read_changed(rt, t, text, 140, b'2')?;
+    read_changed(rt, t, text, 193, b'1')?;
+    read_changed(rt, t, text, 194, b' ')?;
+    Ok(())
 }
 
 // Only the cells can say this: the event that a wait for any lists is signaled.
-fn servable() {
-    let t = Tables::new().create_event(0, 1).any(1, 7).put(2, 1);
-    print::text(b"signaled by hand\n");
+fn servable(rt: &impl Print) -> io::Result<()> {
+    let t = Tables::new()
+        .create_event(rt, 0, 1)?
+        .any(rt, 1, 7)?
+        .put(2, 1);
+    print::text(rt, b"signaled by hand\n")?;
     let cells = t.cells;
-    read_whole(t, written(&cells));
+    read_whole(rt, t, written(&cells))?;
+    Ok(())
 }
 
 // A maximum of 0 is in its key's range, and the sum is made right: the offset is 0 (4/13).
-fn no_maximum() {
-    let t = Tables::new().create_semaphore(0, 1).create_event(0, 0);
-    read_back(t);
+fn no_maximum(rt: &impl Print) -> io::Result<()> {
+    let t = Tables::new()
+        .create_semaphore(rt, 0, 1)?
+        .create_event(rt, 0, 0)?;
+    read_back(rt, t)?;
     let cells = t.cells;
-    read_changed(t, with(written(&cells), 104, b'5'), 47, b'0');
+    read_changed(rt, t, with(written(&cells), 104, b'5'), 47, b'0')?;
+    Ok(())
 }
 
 // 9 before 13.
-fn short_tables(text: Text) {
+fn short_tables(rt: &impl Print, text: Text) -> io::Result<()> {
     let mut t = [7u64; TABLE_LENGTH - 1];
     let bytes = text.bytes;
     let r = ntsync::restore(&mut t, &bytes);
-    print::text(b"one cell short:");
-    print::one(r.answer);
-    print::number(r.offset);
-    memory::verdict(&t, &[7u64; TABLE_LENGTH - 1]);
+    print::text(rt, b"one cell short:")?;
+    print::one(rt, r.answer)?;
+    print::number(rt, r.offset)?;
+    memory::verdict(rt, &t, &[7u64; TABLE_LENGTH - 1])?;
+    Ok(())
 }
 
-pub fn cases() {
-    print::heading(b"a picture read back");
-    let t = first_reading();
-    placed();
+pub fn cases(rt: &impl Print) -> io::Result<()> {
+    print::heading(rt, b"a picture read back")?;
+    let t = first_reading(rt)?;
+    placed(rt)?;
     let cells = t.cells;
     let text = written(&cells);
-    cut(t, text);
-    changed(t, text);
-    servable();
-    no_maximum();
-    short_tables(text);
+    cut(rt, t, text)?;
+    changed(rt, t, text)?;
+    servable(rt)?;
+    no_maximum(rt)?;
+    short_tables(rt, text)?;
+    Ok(())
 }

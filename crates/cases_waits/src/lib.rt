@@ -2,16 +2,19 @@
 // change request 1/13's waits for no objects.
 #![tactic(auto)]
 
+use std::io;
+
 mod clocks;
 mod queues;
 mod readings;
 mod sleeps;
 mod slips;
 
-pub fn cases() {
-    readings::cases();
-    slips::cases();
-    queues::cases();
-    clocks::cases();
-    sleeps::cases();
+pub fn cases(rt: &impl Print) -> io::Result<()> {
+    readings::cases(rt)?;
+    slips::cases(rt)?;
+    queues::cases(rt)?;
+    clocks::cases(rt)?;
+    sleeps::cases(rt)?;
+    Ok(())
 }

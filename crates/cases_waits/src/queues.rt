@@ -2,6 +2,7 @@
 use call_lines::memory::{Cells, Tables};
 use call_lines::waiting::NEVER;
 use call_lines::{print, woken};
+use std::io;
 
 // ---- many calls in a row
 
@@ -18,11 +19,11 @@ fn create_many(t: &mut Cells, n: u32) -> u32 {
     i
 }
 
-fn created(n: u32) -> Tables {
+fn created(rt: &impl Print, n: u32) -> io::Result<Tables> {
     let t = Tables::new();
     let mut cells = t.cells;
-    print::counted(b"created in a row:", create_many(&mut cells, n) as u64);
-    Tables { cells }
+    print::counted(rt, b"created in a row:", create_many(&mut cells, n) as u64)?;
+    Ok(Tables { cells })
 }
 
 fn is_posted(t: &mut Cells, handle: u32) -> bool {
@@ -46,41 +47,43 @@ fn post_many(t: &mut Cells, n: u32) -> u32 {
     i
 }
 
-fn posted(t: Tables, n: u32) -> Tables {
+fn posted(rt: &impl Print, t: Tables, n: u32) -> io::Result<Tables> {
     let mut cells = t.cells;
     print::counted(
+        rt,
         b"posts in a row that woke nobody:",
         post_many(&mut cells, n) as u64,
-    );
-    Tables { cells }
+    )?;
+    Ok(Tables { cells })
 }
 
 // ---- 32 waits
 
-fn at_full_queue(t: Tables) -> Tables {
-    t.any(1, 7)
-        .all_two(1, 2, 7)
-        .any_until(1, 7, 0, 5, 5)
-        .any_two(1, 2, 7)
-        .any(2, 7)
-        .any_alert(1, 7, 3)
-        .read_semaphore(2)
-        .read_event(3)
+fn at_full_queue(rt: &impl Print, t: Tables) -> io::Result<Tables> {
+    t.any(rt, 1, 7)?
+        .all_two(rt, 1, 2, 7)?
+        .any_until(rt, 1, 7, 0, 5, 5)?
+        .any_two(rt, 1, 2, 7)?
+        .any(rt, 2, 7)?
+        .any_alert(rt, 1, 7, 3)?
+        .read_semaphore(rt, 2)?
+        .read_event(rt, 3)
 }
 
 // Ticket 33 stands in the place of ticket 17 and is woken last all the same.
-fn full_queue() {
+fn full_queue(rt: &impl Print) -> io::Result<()> {
     let t = Tables::new()
-        .create_event(0, 1)
-        .create_semaphore(1, 1)
-        .create_event(1, 0)
-        .fill_queue();
-    at_full_queue(t)
-        .cancel(17)
-        .any(1, 7)
-        .any(1, 7)
-        .set(1)
-        .read_event(1);
+        .create_event(rt, 0, 1)?
+        .create_semaphore(rt, 1, 1)?
+        .create_event(rt, 1, 0)?
+        .fill_queue(rt)?;
+    at_full_queue(rt, t)?
+        .cancel(rt, 17)?
+        .any(rt, 1, 7)?
+        .any(rt, 1, 7)?
+        .set(rt, 1)?
+        .read_event(rt, 1)?;
+    Ok(())
 }
 
 // ---- 64 handles
@@ -100,109 +103,116 @@ fn number(list: &mut [u32]) {
     }
 }
 
-fn long_any(t: Tables, list: &[u32]) -> Tables {
-    t.any_of(list, 7)
-        .post(64, 1)
-        .post(64, 1)
-        .any_of(list, 7)
-        .read_semaphore(64)
+fn long_any(rt: &impl Print, t: Tables, list: &[u32]) -> io::Result<Tables> {
+    t.any_of(rt, list, 7)?
+        .post(rt, 64, 1)?
+        .post(rt, 64, 1)?
+        .any_of(rt, list, 7)?
+        .read_semaphore(rt, 64)
 }
 
-fn long_all(t: Tables, list: &[u32]) -> Tables {
-    let t = posted(t.all_of(list, 7), 63)
-        .post(64, 1)
-        .read_semaphore(1)
-        .read_semaphore(64);
-    posted(t, 64)
-        .all_of(list, 7)
-        .read_semaphore(1)
-        .read_semaphore(64)
+fn long_all(rt: &impl Print, t: Tables, list: &[u32]) -> io::Result<Tables> {
+    let t = posted(rt, t.all_of(rt, list, 7)?, 63)?
+        .post(rt, 64, 1)?
+        .read_semaphore(rt, 1)?
+        .read_semaphore(rt, 64)?;
+    posted(rt, t, 64)?
+        .all_of(rt, list, 7)?
+        .read_semaphore(rt, 1)?
+        .read_semaphore(rt, 64)
 }
 
-fn long_alert(t: Tables, list: &[u32]) -> Tables {
-    t.create_event(1, 0)
-        .wait_all(list, 7, 66, 0, 0, NEVER, 0)
-        .read_event(66)
+fn long_alert(rt: &impl Print, t: Tables, list: &[u32]) -> io::Result<Tables> {
+    t.create_event(rt, 1, 0)?
+        .wait_all(rt, list, 7, 66, 0, 0, NEVER, 0)?
+        .read_event(rt, 66)
 }
 
-fn sixty_four() -> Tables {
+fn sixty_four(rt: &impl Print) -> io::Result<Tables> {
     let mut list = [0u32; 64];
     number(&mut list);
-    let t = long_any(created(65), &list);
-    let t = long_all(t, &list);
-    long_alert(t, &list)
+    let t = long_any(rt, created(rt, 65)?, &list)?;
+    let t = long_all(rt, t, &list)?;
+    long_alert(rt, t, &list)
 }
 
 // All are signaled, so that only the length stands against the wait.
-fn sixty_five(t: Tables) {
+fn sixty_five(rt: &impl Print, t: Tables) -> io::Result<()> {
     let mut list = [0u32; 65];
     number(&mut list);
-    posted(t, 65).any_of(&list, 7).all_of(&list, 7);
+    posted(rt, t, 65)?
+        .any_of(rt, &list, 7)?
+        .all_of(rt, &list, 7)?;
+    Ok(())
 }
 
 // ---- handle 512
 
-fn last_semaphore(t: Tables) -> Tables {
-    t.any(512, 7)
-        .all_two(512, 511, 8)
-        .post(512, 1)
-        .post(512, 1)
-        .post(511, 1)
-        .read_semaphore(512)
-        .any(513, 7)
-        .post(513, 1)
+fn last_semaphore(rt: &impl Print, t: Tables) -> io::Result<Tables> {
+    t.any(rt, 512, 7)?
+        .all_two(rt, 512, 511, 8)?
+        .post(rt, 512, 1)?
+        .post(rt, 512, 1)?
+        .post(rt, 511, 1)?
+        .read_semaphore(rt, 512)?
+        .any(rt, 513, 7)?
+        .post(rt, 513, 1)
 }
 
-fn last_handle() {
-    last_semaphore(created(512))
-        .close(512)
-        .create_event(0, 0)
-        .any_alert(511, 7, 512)
-        .set(512)
-        .read_event(512);
+fn last_handle(rt: &impl Print) -> io::Result<()> {
+    last_semaphore(rt, created(rt, 512)?)?
+        .close(rt, 512)?
+        .create_event(rt, 0, 0)?
+        .any_alert(rt, 511, 7, 512)?
+        .set(rt, 512)?
+        .read_event(rt, 512)?;
+    Ok(())
 }
 
 // ---- the last ticket
 
-fn next(t: Tables) -> Tables {
-    print::counted(b"next ticket:", t.cell(0));
-    t
+fn next(rt: &impl Print, t: Tables) -> io::Result<Tables> {
+    print::counted(rt, b"next ticket:", t.cell(0))?;
+    Ok(t)
 }
 
-fn no_ticket(t: Tables) -> Tables {
-    t.any(1, 8)
-        .all_two(1, 2, 8)
-        .any_until(1, 8, 0, 5, 5)
-        .any_two(1, 2, 8)
-        .read_semaphore(2)
+fn no_ticket(rt: &impl Print, t: Tables) -> io::Result<Tables> {
+    t.any(rt, 1, 8)?
+        .all_two(rt, 1, 2, 8)?
+        .any_until(rt, 1, 8, 0, 5, 5)?
+        .any_two(rt, 1, 2, 8)?
+        .read_semaphore(rt, 2)
 }
 
 // The last ticket is 18446744073709551614; after it none is given, though the queue is empty again.
-fn last_ticket() {
+fn last_ticket(rt: &impl Print) -> io::Result<()> {
     let t = Tables::new()
-        .create_event(0, 1)
-        .create_semaphore(1, 1)
-        .put_next(NEVER - 1)
-        .any(1, 7);
-    next(no_ticket(next(t)).set(1).any(2, 8));
+        .create_event(rt, 0, 1)?
+        .create_semaphore(rt, 1, 1)?
+        .put_next(rt, NEVER - 1)?
+        .any(rt, 1, 7)?;
+    next(rt, no_ticket(rt, next(rt, t)?)?.set(rt, 1)?.any(rt, 2, 8)?)?;
+    Ok(())
 }
 
 // The lack of a place is told before the lack of a ticket.
-fn full_and_spent() {
+fn full_and_spent(rt: &impl Print) -> io::Result<()> {
     Tables::new()
-        .create_event(0, 1)
-        .fill_queue()
-        .put_next(NEVER)
-        .any(1, 7)
-        .cancel(5)
-        .any(1, 7);
+        .create_event(rt, 0, 1)?
+        .fill_queue(rt)?
+        .put_next(rt, NEVER)?
+        .any(rt, 1, 7)?
+        .cancel(rt, 5)?
+        .any(rt, 1, 7)?;
+    Ok(())
 }
 
-pub fn cases() {
-    print::heading(b"the limits of the queue");
-    full_queue();
-    sixty_five(sixty_four());
-    last_handle();
-    last_ticket();
-    full_and_spent();
+pub fn cases(rt: &impl Print) -> io::Result<()> {
+    print::heading(rt, b"the limits of the queue")?;
+    full_queue(rt)?;
+    sixty_five(rt, sixty_four(rt)?)?;
+    last_handle(rt)?;
+    last_ticket(rt)?;
+    full_and_spent(rt)?;
+    Ok(())
 }

@@ -2,96 +2,108 @@
 use call_lines::memory::Tables;
 use call_lines::print;
 use call_lines::waiting::NEVER;
+use std::io;
 
 const MOST: u32 = 4294967295;
 
-fn reading(number: u64) -> Tables {
-    print::text(b"P");
-    print::bare(number);
-    print::end();
-    Tables::new()
+fn reading(rt: &impl Print, number: u64) -> io::Result<Tables> {
+    print::text(rt, b"P")?;
+    print::bare(rt, number)?;
+    print::end(rt)?;
+    Ok(Tables::new())
 }
 
-fn all_queued() {
-    reading(1).put_shown().read_semaphore(1).read_event(2);
-    reading(2)
-        .put_shown()
-        .set(2)
-        .read_semaphore(1)
-        .read_event(2);
+fn all_queued(rt: &impl Print) -> io::Result<()> {
+    reading(rt, 1)?
+        .put_shown(rt)?
+        .read_semaphore(rt, 1)?
+        .read_event(rt, 2)?;
+    reading(rt, 2)?
+        .put_shown(rt)?
+        .set(rt, 2)?
+        .read_semaphore(rt, 1)?
+        .read_event(rt, 2)?;
+    Ok(())
 }
 
-fn posts() {
-    reading(3)
-        .create_semaphore(1, 3)
-        .post(1, 2)
-        .read_semaphore(1);
-    reading(4)
-        .create_semaphore(1, 3)
-        .post(1, 3)
-        .read_semaphore(1);
+fn posts(rt: &impl Print) -> io::Result<()> {
+    reading(rt, 3)?
+        .create_semaphore(rt, 1, 3)?
+        .post(rt, 1, 2)?
+        .read_semaphore(rt, 1)?;
+    reading(rt, 4)?
+        .create_semaphore(rt, 1, 3)?
+        .post(rt, 1, 3)?
+        .read_semaphore(rt, 1)?;
+    Ok(())
 }
 
 // Cancelling shows which of the two waits is still queued.
-fn pulsed(t: Tables, manual: u32) {
-    t.create_event(0, manual)
-        .any(1, 7)
-        .any(1, 8)
-        .pulse(1)
-        .read_event(1)
-        .cancel(1)
-        .cancel(2);
+fn pulsed(rt: &impl Print, t: Tables, manual: u32) -> io::Result<()> {
+    t.create_event(rt, 0, manual)?
+        .any(rt, 1, 7)?
+        .any(rt, 1, 8)?
+        .pulse(rt, 1)?
+        .read_event(rt, 1)?
+        .cancel(rt, 1)?
+        .cancel(rt, 2)?;
+    Ok(())
 }
 
-fn pulses() {
-    pulsed(reading(5), 0);
-    pulsed(reading(6), 1);
+fn pulses(rt: &impl Print) -> io::Result<()> {
+    pulsed(rt, reading(rt, 5)?, 0)?;
+    pulsed(rt, reading(rt, 6)?, 1)?;
+    Ok(())
 }
 
-fn mutexes() {
-    reading(7)
-        .create_mutex(5, 1)
-        .any(1, 6)
-        .any(1, 6)
-        .unlock(1, 5)
-        .read_mutex(1);
-    reading(8)
-        .create_mutex(5, 1)
-        .any(1, 6)
-        .kill_owner(1, 5)
-        .read_mutex(1);
-    reading(9)
-        .create_mutex(5, MOST)
-        .any(1, 5)
-        .unlock(1, 5)
-        .read_mutex(1);
+fn mutexes(rt: &impl Print) -> io::Result<()> {
+    reading(rt, 7)?
+        .create_mutex(rt, 5, 1)?
+        .any(rt, 1, 6)?
+        .any(rt, 1, 6)?
+        .unlock(rt, 1, 5)?
+        .read_mutex(rt, 1)?;
+    reading(rt, 8)?
+        .create_mutex(rt, 5, 1)?
+        .any(rt, 1, 6)?
+        .kill_owner(rt, 1, 5)?
+        .read_mutex(rt, 1)?;
+    reading(rt, 9)?
+        .create_mutex(rt, 5, MOST)?
+        .any(rt, 1, 5)?
+        .unlock(rt, 1, 5)?
+        .read_mutex(rt, 1)?;
+    Ok(())
 }
 
-fn listed_as_alert() {
-    reading(10)
-        .create_event(1, 0)
-        .any_two_alert(1, 1, 7, 1)
-        .read_event(1);
+fn listed_as_alert(rt: &impl Print) -> io::Result<()> {
+    reading(rt, 10)?
+        .create_event(rt, 1, 0)?
+        .any_two_alert(rt, 1, 1, 7, 1)?
+        .read_event(rt, 1)?;
+    Ok(())
 }
 
-fn timeouts() {
-    reading(11)
-        .create_event(0, 0)
-        .any_until(1, 7, 0, 100, 100)
-        .any_until(1, 7, 0, 101, 100)
-        .read_event(1);
-    reading(12)
-        .create_event(0, 0)
-        .any_until(1, 7, 0, NEVER, NEVER)
-        .read_event(1);
+fn timeouts(rt: &impl Print) -> io::Result<()> {
+    reading(rt, 11)?
+        .create_event(rt, 0, 0)?
+        .any_until(rt, 1, 7, 0, 100, 100)?
+        .any_until(rt, 1, 7, 0, 101, 100)?
+        .read_event(rt, 1)?;
+    reading(rt, 12)?
+        .create_event(rt, 0, 0)?
+        .any_until(rt, 1, 7, 0, NEVER, NEVER)?
+        .read_event(rt, 1)?;
+    Ok(())
 }
 
-pub fn cases() {
-    print::heading(b"bench readings");
-    all_queued();
-    posts();
-    pulses();
-    mutexes();
-    listed_as_alert();
-    timeouts();
+pub fn cases(rt: &impl Print) -> io::Result<()> {
+    print::heading(rt, b"bench readings")?;
+    all_queued(rt)?;
+    posts(rt)?;
+    pulses(rt)?;
+    mutexes(rt)?;
+    listed_as_alert(rt)?;
+    timeouts(rt)?;
+    Ok(())
 }

@@ -2,78 +2,85 @@
 use call_lines::memory::Tables;
 use call_lines::print;
 use call_lines::waiting::NEVER;
+use std::io;
 
 // The holder's own wait is served at once, the other's when the count falls to zero.
-fn unlocked_in_steps() {
+fn unlocked_in_steps(rt: &impl Print) -> io::Result<()> {
     Tables::new()
-        .create_mutex(5, 2)
-        .any(1, 6)
-        .any(1, 5)
-        .unlock(1, 5)
-        .unlock(1, 5)
-        .unlock(1, 5)
-        .read_mutex(1);
+        .create_mutex(rt, 5, 2)?
+        .any(rt, 1, 6)?
+        .any(rt, 1, 5)?
+        .unlock(rt, 1, 5)?
+        .unlock(rt, 1, 5)?
+        .unlock(rt, 1, 5)?
+        .read_mutex(rt, 1)?;
+    Ok(())
 }
 
 // The older wait lacks the event, takes nothing of the semaphore and leaves it to the younger.
-fn all_or_nothing() {
+fn all_or_nothing(rt: &impl Print) -> io::Result<()> {
     Tables::new()
-        .create_semaphore(0, 1)
-        .create_event(0, 0)
-        .all_two(1, 2, 7)
-        .any(1, 8)
-        .post(1, 1)
-        .read_semaphore(1)
-        .set(2)
-        .post(1, 1)
-        .read_semaphore(1)
-        .read_event(2);
+        .create_semaphore(rt, 0, 1)?
+        .create_event(rt, 0, 0)?
+        .all_two(rt, 1, 2, 7)?
+        .any(rt, 1, 8)?
+        .post(rt, 1, 1)?
+        .read_semaphore(rt, 1)?
+        .set(rt, 2)?
+        .post(rt, 1, 1)?
+        .read_semaphore(rt, 1)?
+        .read_event(rt, 2)?;
+    Ok(())
 }
 
 // Answer 4 is no refusal: the mutex and what is listed with it are acquired.
-fn abandoned() {
+fn abandoned(rt: &impl Print) -> io::Result<()> {
     Tables::new()
-        .create_semaphore(1, 1)
-        .create_mutex(5, 1)
-        .kill_owner(2, 5)
-        .read_mutex(2)
-        .all_two(1, 2, 6)
-        .read_semaphore(1)
-        .read_mutex(2);
+        .create_semaphore(rt, 1, 1)?
+        .create_mutex(rt, 5, 1)?
+        .kill_owner(rt, 2, 5)?
+        .read_mutex(rt, 2)?
+        .all_two(rt, 1, 2, 6)?
+        .read_semaphore(rt, 1)?
+        .read_mutex(rt, 2)?;
+    Ok(())
 }
 
 // The list comes before the alert, and the lower index before the higher.
-fn order() {
+fn order(rt: &impl Print) -> io::Result<()> {
     Tables::new()
-        .create_event(1, 0)
-        .create_semaphore(1, 1)
-        .create_event(1, 0)
-        .any_two_alert(2, 3, 7, 1)
-        .any_two_alert(2, 3, 7, 1)
-        .read_event(1)
-        .any_two_alert(2, 3, 7, 1)
-        .wait_all(&[2, 3], 7, 1, 0, 0, NEVER, 0)
-        .read_event(1)
-        .set(1)
-        .cancel(1);
+        .create_event(rt, 1, 0)?
+        .create_semaphore(rt, 1, 1)?
+        .create_event(rt, 1, 0)?
+        .any_two_alert(rt, 2, 3, 7, 1)?
+        .any_two_alert(rt, 2, 3, 7, 1)?
+        .read_event(rt, 1)?
+        .any_two_alert(rt, 2, 3, 7, 1)?
+        .wait_all(rt, &[2, 3], 7, 1, 0, 0, NEVER, 0)?
+        .read_event(rt, 1)?
+        .set(rt, 1)?
+        .cancel(rt, 1)?;
+    Ok(())
 }
 
 // With nobody queued a pulse leaves the event cleared.
-fn pulse_alone() {
+fn pulse_alone(rt: &impl Print) -> io::Result<()> {
     Tables::new()
-        .create_event(1, 1)
-        .pulse(1)
-        .pulse(1)
-        .set(1)
-        .set(1)
-        .read_event(1);
+        .create_event(rt, 1, 1)?
+        .pulse(rt, 1)?
+        .pulse(rt, 1)?
+        .set(rt, 1)?
+        .set(rt, 1)?
+        .read_event(rt, 1)?;
+    Ok(())
 }
 
-pub fn cases() {
-    print::heading(b"slips, list and alert");
-    unlocked_in_steps();
-    all_or_nothing();
-    abandoned();
-    order();
-    pulse_alone();
+pub fn cases(rt: &impl Print) -> io::Result<()> {
+    print::heading(rt, b"slips, list and alert")?;
+    unlocked_in_steps(rt)?;
+    all_or_nothing(rt)?;
+    abandoned(rt)?;
+    order(rt)?;
+    pulse_alone(rt)?;
+    Ok(())
 }

@@ -7,11 +7,14 @@
 // The cases are libraries, so that their proofs are checked side by side.
 #![tactic(auto)]
 
-fn main() {
-    cases_objects::cases();
-    cases_damage::cases();
-    cases_waits::cases();
-    cases_refused::cases();
-    cases_objects::snapshot_cases();
-    cases_restore::cases();
+use std::io;
+
+fn main(rt: HostRuntime) -> io::Result<()> {
+    cases_objects::cases(&rt)?;
+    cases_damage::cases(&rt)?;
+    cases_waits::cases(&rt)?;
+    cases_refused::cases(&rt)?;
+    cases_objects::snapshot_cases(&rt)?;
+    cases_restore::cases(&rt)?;
+    Ok(())
 }
