@@ -44,4 +44,4 @@ bench:
 	bench/run
 
 clean:
-	rm -rf build target
+	rm -rf build target crates/*/out

@@ -9,7 +9,7 @@ fn main() {
     println!("cargo:rerun-if-env-changed=NTSYNC_LIB_DIR");
     link(env::var_os("NTSYNC_LIB_DIR").map_or(root.join("build"), PathBuf::from), "ntsync");
     if env::var_os("CARGO_FEATURE_CHECK").is_some() {
-        link(root.join("target/staticlib"), "bench");
+        link(root.join("crates/bench/out"), "bench");
     }
 }
 

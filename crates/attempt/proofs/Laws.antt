@@ -1,6 +1,6 @@
 -- What the definitions of an attempt come to on each way through the code.
 use Prim.Native.Nat.{ℕ, ◌+◌, ◌-◌, ◌<◌, ◌≤◌}
-use mathlib.Core.Path.{◌≡◌, refl, sym, ap, ◌∙◌}
+use mathlib.Core.Path.{◌≡◌, refl, sym, ◌∙◌}
 use mathlib.Core.Bool.{Bool, true, false, not, ◌||◌, ◌&&◌, cond}
 use mathlib.Core.List.{List}
 use native.Mathlib.Omega.{arith}
@@ -10,9 +10,9 @@ use native.Mathlib.Nat.{le_refl}
 use borrow.Author.Tests.{lt-ltb, le-ltb, eq-eqb, ne_eqb, ltb-true}
 use Rattle.model.proofs.Logic.{by_bool, clash, not_true, not_false}
 use Rattle.refine.proofs.Fold.{all_at_lem}
-use Rattle.cells.specs.Fold.{fold_below, all_below, search_from}
+use Rattle.cells.specs.Fold.{all_below, search_from}
 use Rattle.cells.specs.Objects.{Fields, named, store, signaled_fields, acquired_fields, abandoned_fields}
-use Rattle.cells.specs.Attempt.{signaled_at, acquire_at, abandoned_at, look_any, look_all, acquire_first, abandoned_first, Tried, missed, took, take_one, take_all, by_alert, try_any, try_all, try_list}
+use Rattle.cells.specs.Attempt.{signaled_at, acquire_at, abandoned_at, look_any, look_all, acquire_first, abandoned_first, Tried, missed, take_one, take_all, by_alert, try_any, try_all, try_list}
 use Rattle.cells.proofs.Fold.{fold_none, fold_more, search_found, search_on, search_end}
 
 -- one object

@@ -1,14 +1,13 @@
 -- Every call behind its refusals, on cells; corrupt tables first.
-use Rattle.std.specs.Prelude.{ℕ, zero, suc, ◌+◌, ◌-◌, ◌*◌, List, [], ◌∷◌, Bool, true, false, not, ◌&&◌, ◌||◌, cond, length, get_or, set, eqb, ltb, leb}
+use Rattle.std.specs.Prelude.{ℕ, ◌+◌, List, [], ◌∷◌, Bool, not, ◌&&◌, ◌||◌, cond, length, get_or, set, eqb, ltb, leb}
 use Rattle.model.specs.Sizes.{object_places, wait_places, max_listed, word64, wake_length, snapshot_buffer}
 use Rattle.model.specs.Basics.{bit, any_of, overwrite}
-use Rattle.model.specs.Waits.{Mode, any, all}
 use Rattle.model.specs.Calls.{Operation, create, close, reset_event, read, signal, wait, expire, cancel, snapshot, Kind, a_semaphore, a_mutex, an_event, Signal, post, unlock, kill, set_event, pulse_event, Lent, Call, bad_new, time_up, nothing_lent}
 use Rattle.model.specs.Layout.{header_size, table_length, mode_cell}
 use Rattle.cells.specs.Fold.{fold_below, some_below, search_from}
 use Rattle.cells.specs.Objects.{Fields, fields, no_fields, fields_at, put_fields, named, store, Changed, post_fields, unlock_fields, kill_fields, switch_fields}
 use Rattle.cells.specs.Waits.{next_ticket, wait_cell, ticket_at, queued_at, names_at, clear_wait, has}
-use Rattle.cells.specs.Attempt.{Tried, try_list}
+use Rattle.cells.specs.Attempt.{try_list}
 use Rattle.cells.specs.Walk.{Walked, walked, wake_cells, end_cells}
 use Rattle.cells.specs.Validity.{occupied_at, event_at, too_few, occupied_list, repeated_list, valid_cells}
 use Rattle.cells.specs.Snapshot.{snapshot_of}

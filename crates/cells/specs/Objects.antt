@@ -1,5 +1,5 @@
 -- The object places as cells, and the rules of one object on its four numbers.
-use Rattle.std.specs.Prelude.{ℕ, ◌+◌, ◌-◌, ◌*◌, List, Bool, true, false, not, ◌&&◌, ◌||◌, cond, set, eqb, ltb, leb}
+use Rattle.std.specs.Prelude.{ℕ, ◌+◌, ◌-◌, ◌*◌, List, Bool, false, ◌&&◌, ◌||◌, cond, set, eqb, ltb, leb}
 use Rattle.model.specs.Sizes.{object_places, mutex_ceiling}
 use Rattle.model.specs.Layout.{object_size, in_object}
 

@@ -1,11 +1,11 @@
 -- The snapshot's text in the shape of its writer.
-use Rattle.std.specs.Prelude.{ℕ, zero, suc, ◌+◌, ◌%◌, List, [], ◌∷◌, ◌++◌, Bool, true, false, cond, length, get_or, eqb, ltb}
+use Rattle.std.specs.Prelude.{ℕ, zero, suc, ◌+◌, ◌%◌, List, [], ◌++◌, cond, length, get_or, eqb, ltb}
 use Rattle.model.specs.Sizes.{object_places, wait_places, word32}
 use Rattle.model.specs.Basics.{bit}
 use Rattle.model.specs.Snapshot.{ascii, line, byte_sum}
 use Rattle.cells.specs.Fold.{fold_below}
 use Rattle.cells.specs.Objects.{Fields, fields_at}
-use Rattle.cells.specs.Waits.{next_ticket, queued_at, ticket_at, mode_at, owner_at, clock_at, timeout_at, count_at, alert_at, list_of, next_wait}
+use Rattle.cells.specs.Waits.{next_ticket, queued_at, ticket_at, mode_at, owner_at, clock_at, timeout_at, alert_at, list_of, next_wait}
 
 -- an object of each kind
 abbrev pub semaphore_text : ℕ → Fields → List ℕ

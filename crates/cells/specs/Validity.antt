@@ -1,5 +1,5 @@
 -- The validity check, place by place: loops bounded by the number of listed handles, each zero and each handle met once.
-use Rattle.std.specs.Prelude.{ℕ, ◌+◌, ◌-◌, ◌*◌, List, [], ◌∷◌, ◌++◌, Bool, true, false, not, ◌&&◌, ◌||◌, cond, length, get_or, eqb, ltb, leb}
+use Rattle.std.specs.Prelude.{ℕ, ◌+◌, ◌-◌, List, [], ◌∷◌, ◌++◌, Bool, false, not, ◌&&◌, ◌||◌, cond, length, get_or, eqb, ltb, leb}
 use Rattle.model.specs.Sizes.{object_places, wait_places, max_listed, word32}
 use Rattle.model.specs.Basics.{bit, all_of}
 use Rattle.model.specs.Objects.{never_signaled}

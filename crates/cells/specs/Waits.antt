@@ -1,5 +1,5 @@
 -- The wait places as cells, and records of a wake list.
-use Rattle.std.specs.Prelude.{ℕ, ◌+◌, ◌*◌, List, Bool, true, false, ◌&&◌, cond, length, get_or, set, take, drop, eqb, ltb, leb}
+use Rattle.std.specs.Prelude.{ℕ, ◌+◌, ◌*◌, List, Bool, cond, length, get_or, set, take, drop, eqb, ltb, leb}
 use Rattle.model.specs.Sizes.{wait_places, max_listed}
 use Rattle.model.specs.Layout.{header_size, wait_size, waits_base, in_wait}
 use Rattle.cells.specs.Fold.{fold_below, some_below}

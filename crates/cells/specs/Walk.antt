@@ -1,5 +1,5 @@
 -- The wake walk, and the ending of waits whose time is up.
-use Rattle.std.specs.Prelude.{ℕ, zero, suc, ◌+◌, List, Bool, true, false, ◌&&◌, cond, eqb, ltb}
+use Rattle.std.specs.Prelude.{ℕ, zero, suc, ◌+◌, List, Bool, ◌&&◌, cond, eqb, ltb}
 use Rattle.model.specs.Sizes.{wait_places}
 use Rattle.model.specs.Calls.{time_up}
 use Rattle.cells.specs.Waits.{queued_at, ticket_at, clock_at, timeout_at, names_at, clear_wait, lowest, next_wait, put_record}

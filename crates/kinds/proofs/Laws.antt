@@ -11,7 +11,7 @@ use Rattle.model.specs.Sizes.{mutex_ceiling, word32}
 use Rattle.model.specs.Objects.{never_signaled}
 use Rattle.model.specs.Calls.{Kind, a_semaphore, a_mutex, an_event, bad_new}
 use Rattle.model.proofs.Logic.{by_bool, not_twice, not_or, one_or_more}
-use Rattle.cells.specs.Objects.{Fields, fields, no_fields, Changed, changed, acquired_fields, post_fields, if_held, unlock_fields}
+use Rattle.cells.specs.Objects.{Fields, fields, no_fields, changed, acquired_fields, post_fields, if_held, unlock_fields}
 use Rattle.cells.specs.Validity.{valid_fields}
 use Rattle.cells.specs.Calls.{new_fields}
 

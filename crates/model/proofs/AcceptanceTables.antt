@@ -20,7 +20,7 @@ use Rattle.model.specs.Snapshot.{ascii, digits_up_to, line, object_text, objects
 use Rattle.model.specs.Snapshot.{queue_from, snapshot_body, byte_sum, snapshot_text}
 use Rattle.model.specs.Layout.{object_size, wait_size, object_cells, wait_cells, encode, object_of, wait_of, view, distinct_tickets}
 use Rattle.model.specs.Layout.{valid_state, valid_tables}
-use Rattle.model.specs.Steps.{Outcome, unaltered, first_refusal, records, library_step, on_tables, table_step, Seen, sees, seen, hands, handed}
+use Rattle.model.specs.Steps.{Outcome, unaltered, first_refusal, records, library_step, on_tables, table_step, sees, seen, hands, handed}
 
 -- tables as the next ticket and the cells of the first objects and waits; all further places are empty
 pub record Rows : Type 0 where

@@ -9,7 +9,7 @@ use native.Mathlib.Omega.{arith}
 use lib.ListN.{length}
 use lib.Dec.{eqb, ltb}
 use borrow.Author.Tests.{ltb-false, le-ltb, eqb-true, eqb-false}
-use Rattle.model.specs.Basics.{done, owner_dead, number, any_of, member, All}
+use Rattle.model.specs.Basics.{done, owner_dead, any_of, member, All}
 use Rattle.model.specs.Calls.{end_each, least, list_too_short, all_occupied, repeats, Kind, a_semaphore, a_mutex}
 use Rattle.model.specs.Calls.{an_event, Signal, post, unlock, kill, set_event}
 use Rattle.model.specs.Calls.{pulse_event, Operation, create, close, reset_event, read, signal, wait, expire}

@@ -10,15 +10,15 @@ use lib.ListN.{length, get_or, replicate, take, get_or-append, get_or-eq_default
 use lib.Seq.{get_or-append-add, get_or-take, ext_get_or}
 use lib.Dec.{eqb, ltb}
 use borrow.Author.Tests.{ltb-true, ltb-false, leb-true, eqb-true, eqb-false, not-true, lt-ltb, le-ltb, le-leb, eq-eqb, ne_eqb}
-use Rattle.model.specs.Basics.{queued, bit, member, has_repeat, tabulate}
+use Rattle.model.specs.Basics.{bit, member, has_repeat, tabulate}
 use Rattle.model.specs.Calls.{list_too_short, all_occupied, repeats}
 use Rattle.model.specs.Layout.{object_size, header_size, wait_size, waits_base, table_length, object_cells, mode_cell, wait_cells, encode, object_of, in_object, in_wait, wait_of, view, valid_object, valid_wait, distinct_tickets, valid_tables}
 use Rattle.model.specs.Sizes.{object_places, wait_places, max_listed, word32, word64}
-use Rattle.model.specs.Objects.{Object, empty, semaphore, mutex, event, occupied, is_event, abandoned, never_signaled}
+use Rattle.model.specs.Objects.{Object, empty, semaphore, mutex, event, occupied, is_event, never_signaled}
 use Rattle.model.specs.ValidCells.{Occupied, OfEvent, ValidObject, ValidWait, ValidCells}
 use Rattle.model.specs.Notions.{◌is_in◌}
 use Rattle.model.specs.Waits.{Mode, any, all, Wait, WaitPlace, free, waiting, State, object_at, any_waiting}
-use Rattle.model.proofs.Logic.{by_bool, clash, differ, and_split, or_left, or_right, or_split, one_or_more, eqb_same, member_at, at_member, passed, pass}
+use Rattle.model.proofs.Logic.{by_bool, clash, differ, and_split, or_left, or_right, or_split, one_or_more, member_at, at_member, passed, pass}
 use Rattle.model.proofs.Validity.{tables_valid, encoded_valid}
 use Rattle.model.proofs.Valid.{Valid, in_places, none_waiting, waiting_none, all_occupied_in, event_occupied}
 use Rattle.model.proofs.Cells.{valid_shaped, object_cell, wait_cell, read_object_lem, flag, view_object, view_wait, read_wait_lem, encode_length, read_next, at_in, in_at, by_place, Holds, holds, free_cell, ticket_is, mode_is, owner_is, clock_is, timeout_is, count_is, alert_is, list_is, rest_is}

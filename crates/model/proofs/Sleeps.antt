@@ -1,5 +1,5 @@
 -- What ends a wait for any of no objects (1/13): its attempt is its alert's, and without alert and end only a cancel is left.
-use mathlib.Core.Path.{◌≡◌, refl, sym, ◌∙◌, subst}
+use mathlib.Core.Path.{◌≡◌, sym, ◌∙◌, subst}
 use mathlib.Core.Bool.{Bool, false, cond}
 use mathlib.Core.List.{List, [], ◌∷◌, ◌++◌}
 use mathlib.Core.Option.{none, some}
@@ -11,7 +11,7 @@ use Rattle.model.specs.Sizes.{never}
 use Rattle.model.specs.Basics.{All}
 use Rattle.model.specs.Objects.{Object, signaled}
 use Rattle.model.specs.Waits.{any, Wait, WaitPlace, free, waiting, State, with_waits, object_at, lowest_signaled, look}
-use Rattle.model.specs.Waits.{attempt, dequeue, oldest, concerned_by, Report, serve, try_to_serve, walk_queue, wake_by_walk}
+use Rattle.model.specs.Waits.{attempt, dequeue, oldest, concerned_by, serve, try_to_serve, walk_queue, wake_by_walk}
 use Rattle.model.specs.Calls.{Operation, create, close, reset_event, read, signal, wait, expire, cancel, snapshot}
 use Rattle.model.specs.Calls.{Call, new_wait, Change, end_each, change}
 use Rattle.model.specs.Steps.{library_step}

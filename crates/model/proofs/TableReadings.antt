@@ -7,7 +7,7 @@ use borrow.Author.Tests.{ltb-true, leb-true, eqb-true, not-true, not-false}
 use Rattle.model.specs.Sizes.{max_listed}
 use Rattle.model.specs.Waits.{State}
 use Rattle.model.specs.Layout.{valid_tables}
-use Rattle.model.proofs.AcceptanceTables.{fits, ShownByPlaces, cells, state, TableReadings, readings_by_places, TextReading, text_by_places}
+use Rattle.model.proofs.AcceptanceTables.{fits, ShownByPlaces, state, TableReadings, readings_by_places, TextReading, text_by_places}
 use Rattle.model.proofs.Logic.{passed, and_split}
 use Rattle.model.proofs.Valid.{waiting_none}
 use Rattle.model.proofs.Cells.{Shaped, view_shaped}

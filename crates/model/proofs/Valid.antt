@@ -9,7 +9,7 @@ use Prim.Native.Nat.{ℕ, zero, suc, pred, ◌+◌, ◌^◌, ◌≤◌, ◌<◌}
 use native.Mathlib.Omega.{arith}
 use lib.ListN.{length, get_or, length-set}
 use lib.Dec.{eqb, ltb, eqb-suc-zero}
-use borrow.Author.Tests.{ltb-true, ltb-false, leb-true, leb-false, eqb-true, eqb-false, not-true, not-false, lt-ltb, le-leb, ne_eqb}
+use borrow.Author.Tests.{ltb-true, ltb-false, leb-true, eqb-true, eqb-false, not-true, not-false, lt-ltb, le-leb, ne_eqb}
 use Rattle.model.specs.Basics.{any_of, member, has_repeat}
 use Rattle.model.specs.Calls.{Operation, create, close, reset_event, read, signal, wait, expire, cancel, snapshot, Lent, Call, new_object, new_handle, all_occupied, repeats, wait_faults, time_up, new_wait, must_queue, enqueue, refusals, Change, admits, end_each, change, WithinWidths}
 use Rattle.model.specs.Layout.{valid_object, valid_wait, distinct_tickets}

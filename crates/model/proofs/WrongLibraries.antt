@@ -1,7 +1,7 @@
 -- Two slips of document 01 as libraries, and a history that tells each from ours. The code has an edit for each too (signals
 -- unlock_wakes_only_at_zero, attempt all_keeps_part): those show that a contract refuses the slip, these that a host would see it.
 use mathlib.Core.Path.{◌≡◌, ap}
-use mathlib.Core.Bool.{Bool, true, false, cond}
+use mathlib.Core.Bool.{Bool, false, cond}
 use mathlib.Core.List.{List, [], ◌∷◌}
 use Prim.Native.Nat.{ℕ}
 use native.Mathlib.Omega.{arith}
@@ -10,7 +10,7 @@ use lib.ListN.{length, get_or, replicate}
 use Rattle.model.specs.Sizes.{mutex_ceiling, never, wake_length}
 use Rattle.model.specs.Basics.{any_of, member, has_repeat, joined}
 use Rattle.model.specs.Objects.{Object, by_kind, signaled, acquired}
-use Rattle.model.specs.Waits.{Mode, any, all, State, initial, with_objects, object_at, put_at, lowest_signaled, all_signaled, look, attempt, acquire_each, any_abandoned, dequeue, oldest, concerned_by, Woken, none_woken, serve, try_to_serve, walk_queue, wake_by_walk}
+use Rattle.model.specs.Waits.{any, all, State, initial, with_objects, object_at, put_at, lowest_signaled, all_signaled, look, attempt, acquire_each, any_abandoned, dequeue, oldest, concerned_by, Woken, none_woken, serve, try_to_serve, walk_queue, wake_by_walk}
 use Rattle.model.specs.Calls.{Operation, create, close, reset_event, read, signal, wait, expire, cancel, snapshot, a_semaphore, a_mutex, an_event, unlock, Call, wake_lent, asks, least, lowest_empty, all_occupied, waits_full, enqueue, refusals, admits, end_each, change}
 use Rattle.model.specs.Steps.{Outcome, first_refusal, records, perform, library_step, run}
 

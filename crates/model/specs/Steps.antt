@@ -3,8 +3,8 @@ use Rattle.std.specs.Prelude.{◌||◌, cond, List, [], ◌∷◌, ◌++◌, ℕ
 use Rattle.std.proofs.Math.Option.{Option, none, some}
 use Rattle.model.specs.Basics.{maybe, overwrite, number, done, corrupt, list_short}
 use Rattle.model.specs.Objects.{cleared}
-use Rattle.model.specs.Waits.{all, State, initial, object_at, put_object, Report, Woken, wake_by_walk, wake_by_search}
-use Rattle.model.specs.Calls.{Operation, read, wait, Lent, lend, nothing_lent, Call, least, Refusal, refusal}
+use Rattle.model.specs.Waits.{State, initial, object_at, put_object, Report, Woken, wake_by_walk, wake_by_search}
+use Rattle.model.specs.Calls.{Operation, Lent, lend, nothing_lent, Call, least, Refusal, refusal}
 use Rattle.model.specs.Calls.{refusals, Change, change}
 use Rattle.model.specs.Layout.{table_length, encode, view, valid_tables}
 

@@ -17,7 +17,7 @@ use Rattle.refine.proofs.Objects.{store_is}
 use Rattle.refine.proofs.Wait.{put_front, put_wait, next_cell}
 use Rattle.model.specs.Reading.{Lines}
 use Rattle.model.specs.Restore.{returned, shown}
-use Rattle.model.proofs.Placed.{◌among◌, places_among, among_all}
+use Rattle.model.proofs.Placed.{places_among, among_all}
 use Rattle.model.proofs.ReadExactly.{Sensible}
 use Rattle.cells.specs.Waits.{put_next}
 use Rattle.model.proofs.Tables.{initial_tables}

@@ -26,7 +26,7 @@ use Rattle.model.proofs.Valid.{Valid, none_waiting, waiting_none, walk_valid, ke
 use Rattle.model.proofs.Cells.{at_in, in_at, by_place, Holds, holds}
 use Rattle.cells.specs.Calls.{Result, answered, refused_with, woke, empty_object, create_cells, new_fields, busy_at, close_cells, read_on, read_cells, reset_on, reset_cells, cleared_after, signal_on, signal_cells, expire_cells, ticket_place, cancel_cells, snapshot_cells}
 use Rattle.cells.specs.Fold.{search_from}
-use Rattle.cells.specs.Objects.{fields_at, put_fields, named, store, Changed, changed, post_fields, if_held, unlock_fields, kill_fields, switch_fields}
+use Rattle.cells.specs.Objects.{fields_at, put_fields, named, store, Changed, post_fields, if_held, unlock_fields, kill_fields, switch_fields}
 use Rattle.cells.specs.Walk.{wake_cells, end_cells}
 use Rattle.cells.specs.Waits.{ticket_at, clear_wait}
 use Rattle.refine.proofs.Snapshot.{snapshot_of_lem}

@@ -1,15 +1,14 @@
 -- No queued wait could be served, on cells and on the state.
 use mathlib.Core.Path.{◌≡◌, refl, ap, sym, ◌∙◌}
-use mathlib.Core.Bool.{Bool, true, false, not, ◌||◌, cond}
+use mathlib.Core.Bool.{true, false, not, ◌||◌}
 use mathlib.Core.List.{List}
 use mathlib.Core.Option.{Option, none, some}
-use Prim.Native.Nat.{ℕ, ◌<◌}
-use lib.ListN.{length, get_or}
+use Prim.Native.Nat.{ℕ}
+use lib.ListN.{length}
 use lib.Dec.{eqb, ltb}
 use borrow.Author.Tests.{lt-ltb}
-use Rattle.model.specs.Sizes.{wait_places}
 use Rattle.model.specs.Basics.{maybe}
-use Rattle.model.specs.Waits.{Wait, free, waiting, State, Grant, attempt, servable}
+use Rattle.model.specs.Waits.{Wait, State, Grant, attempt, servable}
 use Rattle.model.specs.Layout.{encode}
 use Rattle.model.specs.Restore.{quiet}
 use Rattle.model.proofs.Logic.{by_bool}

@@ -28,7 +28,7 @@ use Rattle.cells.specs.Objects.{fields_at}
 use Rattle.cells.specs.Waits.{queued_at, next_wait}
 use Rattle.refine.proofs.Fold.{fold_first}
 use Rattle.refine.proofs.Objects.{fields_of, fields_at_lem}
-use Rattle.refine.proofs.Waits.{ticket_at_lem, mode_at_lem, owner_at_lem, clock_at_lem, timeout_at_lem, alert_at_lem, count_at_lem, list_of_lem, free_ticket, above_zero, Found, next_is}
+use Rattle.refine.proofs.Waits.{ticket_at_lem, mode_at_lem, owner_at_lem, clock_at_lem, timeout_at_lem, alert_at_lem, list_of_lem, free_ticket, above_zero, Found, next_is}
 
 -- OBJECTS
 fields_text_lem : (h : ℕ) (x : Object) → fields_text h (fields_of x) ≡ object_text h x

@@ -10,19 +10,17 @@ use lib.ListN.{length, get_or, drop, length-drop}
 use lib.Seq.{get_or-take, length-take-le, get_or-drop}
 use lib.Dec.{eqb, ltb, leb}
 use borrow.Author.Tests.{ltb-true, ltb-false, leb-true, eqb-true, eqb-false, not-true, lt-ltb, le-ltb, le-leb, eq-eqb, ne_eqb}
-use Rattle.model.specs.Basics.{queued, bit, member}
+use Rattle.model.specs.Basics.{bit, member}
 use Rattle.model.specs.Layout.{header_size, wait_size, table_length, in_object, in_wait, valid_tables}
 use Rattle.model.specs.Sizes.{object_places, wait_places, max_listed, word32, word64}
-use Rattle.model.specs.Objects.{semaphore, mutex, event, occupied, abandoned, never_signaled}
+use Rattle.model.specs.Objects.{never_signaled}
 use Rattle.model.specs.ValidCells.{Occupied, OfEvent, ValidObject, ValidWait, ValidCells}
-use Rattle.model.specs.Waits.{free}
 use Rattle.model.proofs.Logic.{by_bool, clash, same_tests, or_left, or_right, or_split, passed, pass, member_at, at_member}
 use Rattle.model.proofs.Literal.{same_zero, zero_same, has_maximum, maximum_has, by_number, repeat_once, once_repeat, test_lines, lines_test}
 use Rattle.cells.specs.Waits.{wait_cell, ticket_at, mode_at, owner_at, clock_at, count_at, alert_at, list_of, has}
 use Rattle.cells.specs.Objects.{Fields, no_fields, fields_at, named}
 use Rattle.cells.specs.Validity.{valid_fields, occupied_at, event_at, too_few, occupied_list, repeated_list, unused_zero, alone_at, valid_queued, valid_free, valid_place, valid_cells}
 use Rattle.refine.proofs.Fold.{all_at_lem, all_intro, has_is, repeated_is}
-use Rattle.refine.proofs.Attempt.{once}
 
 -- every cell is a 64-bit word
 abbrev pub Words : List ℕ → Type 0

@@ -9,10 +9,9 @@ use native.Mathlib.Omega.{arith}
 use native.Mathlib.Nat.{add_assoc, le_refl}
 use lib.ListN.{length, get_or, take, drop, length-drop}
 use lib.Seq.{get_or-take, length-take-le, ext_get_or, get_or-drop}
-use lib.Dec.{ltb, T}
+use lib.Dec.{ltb}
 use borrow.Author.Tests.{ltb-true, ltb-false, lt-ltb, le-ltb, le-leb}
 use Rattle.model.specs.Basics.{member}
-use Rattle.model.specs.Calls.{wait, least}
 use Rattle.model.specs.Layout.{header_size, wait_size, table_length, mode_cell, wait_cells, encode, in_wait, distinct_tickets}
 use Rattle.model.specs.Sizes.{wait_places, max_listed}
 use Rattle.model.specs.Waits.{Wait, WaitPlace, free, waiting, State, with_waits, dequeue, oldest, any_waiting, named_by, concerned_by}

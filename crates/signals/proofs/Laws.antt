@@ -1,16 +1,15 @@
 -- What the definitions of the calls that wake come to on each way through the code.
 use Prim.Native.Nat.{ℕ, ◌≤◌, ◌<◌}
-use mathlib.Core.Path.{◌≡◌, refl, sym, ap, ◌∙◌}
-use mathlib.Core.Bool.{Bool, true, false, cond}
-use mathlib.Core.List.{List, []}
-use native.Mathlib.Omega.{arith}
-use lib.Dec.{eqb, ltb}
-use borrow.Author.Tests.{lt-ltb, le-ltb, eq-eqb, ne_eqb, eqb-true}
+use mathlib.Core.Path.{◌≡◌, sym, ap, ◌∙◌}
+use mathlib.Core.Bool.{Bool, true, false}
+use mathlib.Core.List.{List}
+use lib.Dec.{eqb}
+use borrow.Author.Tests.{lt-ltb, le-ltb, eq-eqb, ne_eqb}
 use Rattle.model.specs.Sizes.{wait_places}
 use Rattle.model.specs.Calls.{wake_lent, set_event, pulse_event}
 use Rattle.model.proofs.Logic.{by_bool, clash}
 use Rattle.cells.specs.Objects.{Fields, Changed, named, store, switch_fields}
-use Rattle.cells.specs.Walk.{Walked, walked, wake_cells, end_cells}
+use Rattle.cells.specs.Walk.{walked, wake_cells, end_cells}
 use Rattle.cells.specs.Calls.{Result, refused_with, woke, signal_on, expire_on}
 use Rattle.signals.specs.Values.{applied}
 

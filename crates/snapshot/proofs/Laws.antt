@@ -2,21 +2,20 @@
 use Prim.Native.Nat.{ℕ, zero, suc, ◌+◌, ◌-◌, ◌%◌, ◌≤◌, ◌<◌}
 use mathlib.Core.Path.{◌≡◌, refl, sym, ap, ◌∙◌}
 use mathlib.Core.Bool.{Bool, true, false, cond}
-use mathlib.Core.List.{List, [], ◌∷◌, ◌++◌, append-nil}
+use mathlib.Core.List.{List, [], ◌++◌}
 use mathlib.Core.Logic.{⊎_elim}
 use native.Mathlib.Omega.{arith}
 use native.Mathlib.Nat.{add-zero, le_refl, eq-or-lt_of_le, le_of_suc-le-suc}
 use native.Mathlib.Numerals.{add-one}
 use borrow.Author.Tests.{ne_eqb, lt-ltb, le-ltb}
-use lib.ListN.{length, get_or, take, length-append}
-use lib.Seq.{sets}
-use lib.Dec.{eqb, ltb}
-use Rattle.model.specs.Snapshot.{ascii, line, byte_sum}
+use lib.ListN.{length, take, length-append}
+use lib.Dec.{eqb}
+use Rattle.model.specs.Snapshot.{line, byte_sum}
 use Rattle.cells.specs.Fold.{fold_below}
 use Rattle.cells.proofs.Fold.{fold_none, fold_more}
 use Rattle.model.specs.Basics.{bit}
-use Rattle.cells.specs.Objects.{Fields, fields_at}
-use Rattle.cells.specs.Snapshot.{semaphore_text, mutex_text, event_text, fields_text, objects_text_below, object_total, wait_total, list_text_below, mode_text_of, clock_text_of, wait_lines, wait_text_at, waits_text_from, body_of, snapshot_of}
+use Rattle.cells.specs.Objects.{Fields}
+use Rattle.cells.specs.Snapshot.{semaphore_text, mutex_text, event_text, fields_text, objects_text_below, object_total, wait_total, wait_lines, wait_text_at, waits_text_from, body_of, snapshot_of}
 use Rattle.cells.specs.Waits.{next_ticket, ticket_at, mode_at, owner_at, clock_at, timeout_at, alert_at, list_of, next_wait}
 use Rattle.model.specs.Sizes.{object_places, wait_places, word32}
 use Rattle.decimal.specs.Text.{Room, Wrote}

@@ -1,17 +1,17 @@
 -- What a wait's definitions come to on each way through the code.
 use Prim.Native.Nat.{ℕ, ◌+◌, ◌<◌, ◌≤◌}
 use mathlib.Core.Path.{◌≡◌, refl, sym, ap, ◌∙◌}
-use mathlib.Core.Bool.{Bool, true, false, not, ◌&&◌, ◌||◌, cond, or_assoc, or-true, or-false}
+use mathlib.Core.Bool.{Bool, true, false, not, ◌&&◌, ◌||◌, or_assoc, or-true, or-false}
 use mathlib.Core.List.{List, [], ◌∷◌}
 use native.Mathlib.Omega.{arith}
 use native.Mathlib.Nat.{le_trans}
 use lib.ListN.{length}
 use lib.Dec.{eqb, ltb, leb}
-use borrow.Author.Tests.{lt-ltb, le-ltb, le-leb, lt-leb, eq-eqb, ne_eqb, ltb-true, ltb-false}
+use borrow.Author.Tests.{lt-ltb, le-ltb, le-leb, lt-leb, ltb-false}
 use Rattle.model.specs.Sizes.{wait_places, max_listed, word64, never}
 use Rattle.model.specs.Basics.{any_of}
 use Rattle.model.specs.Calls.{Lent, time_up}
-use Rattle.model.proofs.Logic.{by_bool, clash, not_true, not_false, not_twice, fault_free}
+use Rattle.model.proofs.Logic.{by_bool, clash, not_twice, fault_free}
 use Rattle.cells.specs.Waits.{next_ticket, has}
 use Rattle.cells.specs.Validity.{event_at, too_few, occupied_list, repeated_list, proper_handles, proper_list, proper_alert}
 use Rattle.cells.specs.Attempt.{Tried, try_list}

@@ -1,5 +1,5 @@
 -- What a wait leaves, as the definitions of `cells` have it.
-use Rattle.std.specs.Prelude.{ℕ, List, []}
+use Rattle.std.specs.Prelude.{ℕ, List}
 use Rattle.model.specs.Calls.{nothing_lent}
 use Rattle.cells.specs.Calls.{Result, answered}
 use Rattle.waits.specs.declared.Waited.{Waited}

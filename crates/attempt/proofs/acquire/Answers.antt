@@ -1,7 +1,5 @@
 use Rattle.kinds.specs.Values.{cells_of}
 use Rattle.attempt.proofs.Laws.{acquire_is, abandoned_is}
-use native.Mathlib.Omega.{arith}
-use borrow.Author.Rules.{rules}
 use Rattle.attempt.proofs.acquire.Goals as goal
 
 pub returns : goal.returns

@@ -1,11 +1,7 @@
-use Rattle.attempt.proofs.Laws.{acquired_start, acquired_more, abandoned_start, abandoned_more}
 use Rattle.cells.specs.Attempt.{acquire_first, abandoned_first}
-use mathlib.Core.List.{List}
 use lib.ListN.{length}
-use mathlib.Core.Path.{◌≡◌, refl}
-use Prim.Native.Nat.{ℕ, ◌≤◌, ◌-◌}
-use native.Mathlib.Omega.{arith}
-use borrow.Author.Rules.{rules}
+use mathlib.Core.Path.{◌≡◌}
+use Prim.Native.Nat.{◌≤◌, ◌-◌}
 use Rattle.attempt.proofs.acquire_list.Given as goal
 
 abbrev pub invariant-loop-i : goal.invariant-loop-i

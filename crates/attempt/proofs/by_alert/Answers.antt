@@ -1,6 +1,4 @@
 use Rattle.attempt.proofs.Laws.{alert_took, alert_missed}
-use native.Mathlib.Omega.{arith}
-use borrow.Author.Rules.{rules}
 use Rattle.attempt.proofs.by_alert.Goals as goal
 
 pub returns-then-here : goal.returns-then-here

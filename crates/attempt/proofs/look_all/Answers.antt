@@ -1,10 +1,7 @@
-use Rattle.attempt.proofs.Laws.{SignaledIn, all_start, all_stop, all_on, all_end}
-use Rattle.cells.specs.Fold.{all_below}
-use mathlib.Core.Bool.{true, not}
-use mathlib.Core.List.{List}
+use Rattle.attempt.proofs.Laws.{all_start, all_stop, all_on, all_end}
+use mathlib.Core.Bool.{not}
 use lib.ListN.{length}
-use mathlib.Core.Path.{◌≡◌, refl, ap}
-use Prim.Native.Nat.{ℕ, ◌≤◌, ◌-◌}
+use mathlib.Core.Path.{◌≡◌, ap}
 use native.Mathlib.Omega.{arith}
 use borrow.Author.Rules.{rules}
 use Rattle.attempt.proofs.look_all.Goals as goal

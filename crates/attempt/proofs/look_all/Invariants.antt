@@ -1,12 +1,9 @@
-use Rattle.attempt.proofs.Laws.{SignaledIn, all_start, all_stop, all_on, all_end}
+use Rattle.attempt.proofs.Laws.{SignaledIn}
 use Rattle.cells.specs.Fold.{all_below}
 use mathlib.Core.Bool.{true}
-use mathlib.Core.List.{List}
 use lib.ListN.{length}
-use mathlib.Core.Path.{◌≡◌, refl}
-use Prim.Native.Nat.{ℕ, ◌≤◌, ◌-◌}
-use native.Mathlib.Omega.{arith}
-use borrow.Author.Rules.{rules}
+use mathlib.Core.Path.{◌≡◌}
+use Prim.Native.Nat.{◌≤◌, ◌-◌}
 use Rattle.attempt.proofs.look_all.Given as goal
 
 abbrev pub invariant-loop-i : goal.invariant-loop-i

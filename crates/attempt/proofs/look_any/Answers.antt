@@ -1,11 +1,4 @@
-use Rattle.attempt.proofs.Laws.{SignaledIn, any_start, any_found, any_on, any_end}
-use Rattle.cells.specs.Attempt.{look_any}
-use Rattle.cells.specs.Fold.{search_from}
-use mathlib.Core.List.{List}
-use lib.ListN.{length}
-use mathlib.Core.Path.{◌≡◌, refl}
-use Prim.Native.Nat.{ℕ, ◌≤◌, ◌-◌}
-use native.Mathlib.Omega.{arith}
+use Rattle.attempt.proofs.Laws.{any_start, any_found, any_on, any_end}
 use borrow.Author.Rules.{rules}
 use Rattle.attempt.proofs.look_any.Goals as goal
 

@@ -1,12 +1,9 @@
-use Rattle.attempt.proofs.Laws.{SignaledIn, any_start, any_found, any_on, any_end}
+use Rattle.attempt.proofs.Laws.{SignaledIn}
 use Rattle.cells.specs.Attempt.{look_any}
 use Rattle.cells.specs.Fold.{search_from}
-use mathlib.Core.List.{List}
 use lib.ListN.{length}
-use mathlib.Core.Path.{◌≡◌, refl}
-use Prim.Native.Nat.{ℕ, ◌≤◌, ◌-◌}
-use native.Mathlib.Omega.{arith}
-use borrow.Author.Rules.{rules}
+use mathlib.Core.Path.{◌≡◌}
+use Prim.Native.Nat.{◌≤◌, ◌-◌}
 use Rattle.attempt.proofs.look_any.Given as goal
 
 abbrev pub invariant-loop-i : goal.invariant-loop-i

@@ -1,8 +1,6 @@
 use mathlib.Core.Path.{◌∙◌}
 use Rattle.kinds.specs.Values.{cells_of}
 use Rattle.attempt.proofs.Laws.{signaled_is}
-use native.Mathlib.Omega.{arith}
-use borrow.Author.Rules.{rules}
 use Rattle.attempt.proofs.signaled.Goals as goal
 
 pub returns : goal.returns

@@ -1,6 +1,4 @@
 use Rattle.attempt.proofs.Laws.{taken_all}
-use native.Mathlib.Omega.{arith}
-use borrow.Author.Rules.{rules}
 use Rattle.attempt.proofs.take_list.Goals as goal
 
 pub returns : goal.returns

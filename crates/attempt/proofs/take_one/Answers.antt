@@ -1,6 +1,4 @@
 use Rattle.attempt.proofs.Laws.{taken}
-use native.Mathlib.Omega.{arith}
-use borrow.Author.Rules.{rules}
 use Rattle.attempt.proofs.take_one.Goals as goal
 
 pub returns : goal.returns

@@ -1,7 +1,5 @@
 use mathlib.Core.Path.{◌∙◌}
 use Rattle.attempt.proofs.Laws.{all_took, all_left}
-use native.Mathlib.Omega.{arith}
-use borrow.Author.Rules.{rules}
 use Rattle.attempt.proofs.try_all.Goals as goal
 
 pub returns-then-ready : goal.returns-then-ready

@@ -1,7 +1,5 @@
 use mathlib.Core.Path.{◌∙◌}
 use Rattle.attempt.proofs.Laws.{any_took, any_left}
-use native.Mathlib.Omega.{arith}
-use borrow.Author.Rules.{rules}
 use Rattle.attempt.proofs.try_any.Goals as goal
 
 pub returns-then-i-n : goal.returns-then-i-n

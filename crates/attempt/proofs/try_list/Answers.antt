@@ -1,7 +1,5 @@
 use mathlib.Core.Path.{◌∙◌}
 use Rattle.attempt.proofs.Laws.{list_any, list_all}
-use native.Mathlib.Omega.{arith}
-use borrow.Author.Rules.{rules}
 use Rattle.attempt.proofs.try_list.Goals as goal
 
 pub returns-then-mode-eq0 : goal.returns-then-mode-eq0

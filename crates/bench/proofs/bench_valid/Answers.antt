@@ -1,7 +1,5 @@
 use Rattle.model.specs.Basics.{bit}
-use mathlib.Core.Path.{◌≡◌, sym, ap, ◌∙◌}
-use native.Mathlib.Omega.{arith}
-use borrow.Author.Rules.{rules}
+use mathlib.Core.Path.{sym, ap, ◌∙◌}
 use Rattle.bench.proofs.bench_valid.Goals as goal
 
 pub returns-then-valid : goal.returns-then-valid

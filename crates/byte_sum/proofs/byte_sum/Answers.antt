@@ -1,4 +1,4 @@
-use Rattle.std.proofs.Common.{◌≡◌, ℕ, ◌-◌, ◌%◌, ◌≤◌, List, length, take, refl, ap, ◌∙◌, arith, take_all, rules}
+use Rattle.std.proofs.Common.{ℕ, ◌%◌, List, refl, ap, ◌∙◌, arith, take_all}
 use Rattle.model.specs.Sizes.{word32}
 use Rattle.model.specs.Snapshot.{byte_sum}
 use Rattle.byte_sum.proofs.Laws.{sum_more}

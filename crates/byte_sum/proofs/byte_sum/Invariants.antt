@@ -1,7 +1,6 @@
-use Rattle.std.proofs.Common.{◌≡◌, ℕ, ◌-◌, ◌%◌, ◌≤◌, List, length, take, refl, ap, ◌∙◌, arith, take_all, rules}
+use Rattle.std.proofs.Common.{◌≡◌, ◌-◌, ◌%◌, ◌≤◌, length, take}
 use Rattle.model.specs.Sizes.{word32}
 use Rattle.model.specs.Snapshot.{byte_sum}
-use Rattle.byte_sum.proofs.Laws.{sum_more}
 use Rattle.byte_sum.proofs.byte_sum.Given as goal
 
 abbrev pub invariant-loop-i : goal.invariant-loop-i

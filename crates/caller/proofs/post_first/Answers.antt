@@ -2,13 +2,10 @@ use Rattle.ntsync_fronts.proofs.Laws.{front_room}
 use Rattle.caller.proofs.Laws.{first_none, first_some}
 use Rattle.model.specs.Calls.{signal, post, wake_lent, asks}
 use Rattle.model.specs.Steps.{Seen}
-use mathlib.Core.List.{List, []}
 use mathlib.Core.Path.{sym, ap, ◌∙◌}
-use Prim.Native.Nat.{ℕ, ◌*◌}
+use Prim.Native.Nat.{◌*◌}
 use lib.ListN.{take-append-drop}
 use lib.Seq.{length-take-le}
-use native.Mathlib.Omega.{arith}
-use borrow.Author.Rules.{rules}
 use Rattle.caller.proofs.post_first.Goals as goal
 
 pub slice_bounds-part-end : goal.slice_bounds-part-end

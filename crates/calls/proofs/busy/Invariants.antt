@@ -1,12 +1,8 @@
-use Rattle.cells.proofs.Fold.{fold_none, some_more}
 use Rattle.cells.specs.Calls.{busy_at}
 use Rattle.cells.specs.Fold.{some_below}
 use Rattle.model.specs.Sizes.{wait_places}
-use mathlib.Core.Bool.{Bool, false, ◌||◌}
 use mathlib.Core.Path.{◌≡◌}
 use Prim.Native.Nat.{◌≤◌, ◌-◌}
-use native.Mathlib.Omega.{arith}
-use borrow.Author.Rules.{rules}
 use Rattle.calls.proofs.busy.Given as goal
 
 abbrev pub invariant-loop-p : goal.invariant-loop-p

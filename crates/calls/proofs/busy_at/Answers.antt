@@ -1,7 +1,5 @@
 use mathlib.Core.Path.{◌∙◌}
 use Rattle.calls.proofs.Laws.{busy_free, busy_queued}
-use native.Mathlib.Omega.{arith}
-use borrow.Author.Rules.{rules}
 use Rattle.calls.proofs.busy_at.Goals as goal
 
 pub returns-then-ticket-eq0 : goal.returns-then-ticket-eq0

@@ -1,8 +1,5 @@
-use mathlib.Core.List.{List, []}
 use Rattle.model.specs.Calls.{nothing_lent}
 use Rattle.calls.proofs.Laws.{cancel_zero, cancel_done, cancel_none}
-use native.Mathlib.Omega.{arith}
-use borrow.Author.Rules.{rules}
 use Rattle.calls.proofs.cancel.Goals as goal
 
 pub returns-then-ticket-eq0 : goal.returns-then-ticket-eq0

@@ -1,9 +1,6 @@
-use mathlib.Core.List.{List, []}
 use Rattle.model.specs.Calls.{nothing_lent}
 use Rattle.kinds.specs.Values.{cells_of}
 use Rattle.calls.proofs.Laws.{create_bad, create_done, create_full}
-use native.Mathlib.Omega.{arith}
-use borrow.Author.Rules.{rules}
 use Rattle.calls.proofs.create.Goals as goal
 
 pub returns-then-bad : goal.returns-then-bad

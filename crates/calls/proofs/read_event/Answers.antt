@@ -1,6 +1,4 @@
 use Rattle.cells.specs.Calls.{read_cells}
-use native.Mathlib.Omega.{arith}
-use borrow.Author.Rules.{rules}
 use Rattle.calls.proofs.read_event.Goals as goal
 
 pub returns : goal.returns

@@ -1,10 +1,8 @@
 use Rattle.refine.proofs.Validity.{small_of}
-use mathlib.Core.List.{List, []}
 use Rattle.model.specs.Calls.{nothing_lent}
 use Rattle.kinds.specs.Values.{cells_of}
 use Rattle.calls.proofs.Laws.{mutex_none, mutex_abandoned, mutex_read}
 use native.Mathlib.Omega.{arith}
-use borrow.Author.Rules.{rules}
 use Rattle.calls.proofs.read_mutex.Goals as goal
 
 pub returns-then-o-ne-KIND : goal.returns-then-o-ne-KIND

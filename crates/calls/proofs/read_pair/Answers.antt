@@ -1,10 +1,8 @@
 use Rattle.refine.proofs.Validity.{small_of}
-use mathlib.Core.List.{List, []}
 use Rattle.model.specs.Calls.{nothing_lent}
 use Rattle.kinds.specs.Values.{cells_of}
 use Rattle.calls.proofs.Laws.{pair_read, pair_none}
 use native.Mathlib.Omega.{arith}
-use borrow.Author.Rules.{rules}
 use Rattle.calls.proofs.read_pair.Goals as goal
 
 pub overflow_cast-result : goal.overflow_cast-result

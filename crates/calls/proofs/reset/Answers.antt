@@ -1,10 +1,8 @@
 use Rattle.refine.proofs.Validity.{small_of}
-use mathlib.Core.List.{List, []}
 use Rattle.model.specs.Calls.{nothing_lent}
 use Rattle.kinds.specs.Values.{cells_of, change_of}
 use Rattle.calls.proofs.Laws.{reset_refused, reset_done}
 use native.Mathlib.Omega.{arith}
-use borrow.Author.Rules.{rules}
 use Rattle.calls.proofs.reset.Goals as goal
 
 pub overflow_cast-previous : goal.overflow_cast-previous

@@ -2,10 +2,6 @@ use Prim.Native.Nat.{suc, ◌+◌, ◌≤◌}
 use mathlib.Core.Path.{◌≡◌}
 use lib.ListN.{length}
 use Rattle.model.specs.Snapshot.{digits_up_to}
-use Rattle.model.proofs.Digits.{digits_u64}
-use Rattle.decimal.proofs.Laws.{count_one, count_more}
-use native.Mathlib.Omega.{arith}
-use borrow.Author.Rules.{rules}
 use Rattle.decimal.proofs.digit_count.Given as goal
 
 abbrev pub invariant-loop-front : goal.invariant-loop-front

@@ -2,8 +2,6 @@ use Rattle.decimal.proofs.Laws.{first_room, then_room, then_wrote}
 use Rattle.model.specs.Snapshot.{digits_up_to}
 use mathlib.Core.List.{List, [], ◌∷◌, ◌++◌}
 use Prim.Native.Nat.{ℕ}
-use native.Mathlib.Omega.{arith}
-use borrow.Author.Rules.{rules}
 use Rattle.decimal.proofs.put_line.Goals as goal
 
 pub put_text-number-requires : goal.put_text-number-requires

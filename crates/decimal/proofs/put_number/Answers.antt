@@ -1,8 +1,6 @@
-use Prim.Native.Nat.{◌+◌, ◌/◌, ◌≤◌, ◌<◌}
-use mathlib.Core.Path.{◌≡◌, refl, ◌∙◌}
-use lib.ListN.{length, length-set}
-use lib.Seq.{sets}
-use Rattle.model.specs.Snapshot.{digits_up_to}
+use Prim.Native.Nat.{◌/◌}
+use mathlib.Core.Path.{refl, ◌∙◌}
+use lib.ListN.{length-set}
 use Rattle.decimal.proofs.Laws.{count_more, count_some, digit_more, digit_one}
 use native.Mathlib.Omega.{arith}
 use borrow.Author.Rules.{rules}

@@ -1,11 +1,8 @@
-use Prim.Native.Nat.{◌+◌, ◌/◌, ◌≤◌, ◌<◌}
-use mathlib.Core.Path.{◌≡◌, refl, ◌∙◌}
-use lib.ListN.{length, length-set}
+use Prim.Native.Nat.{◌+◌, ◌≤◌, ◌<◌}
+use mathlib.Core.Path.{◌≡◌}
+use lib.ListN.{length}
 use lib.Seq.{sets}
 use Rattle.model.specs.Snapshot.{digits_up_to}
-use Rattle.decimal.proofs.Laws.{count_more, count_some, digit_more, digit_one}
-use native.Mathlib.Omega.{arith}
-use borrow.Author.Rules.{rules}
 use Rattle.decimal.proofs.put_number.Given as goal
 
 -- the place is that of the rest's last digit; with the rest's digits written, all are

@@ -1,8 +1,6 @@
 use Rattle.decimal.proofs.Laws.{wrote_more, wrote_all}
-use lib.ListN.{length, take, length-set}
-use lib.Seq.{sets}
-use mathlib.Core.Path.{◌≡◌, refl}
-use Prim.Native.Nat.{◌≤◌, ◌-◌}
+use lib.ListN.{length-set}
+use mathlib.Core.Path.{refl}
 use native.Mathlib.Omega.{arith}
 use borrow.Author.Rules.{rules}
 use Rattle.decimal.proofs.put_text.Goals as goal

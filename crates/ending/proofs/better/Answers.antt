@@ -1,8 +1,6 @@
 use mathlib.Core.Bool.{not}
 use mathlib.Core.Path.{ap}
 use Rattle.ending.proofs.Laws.{better_fails, better_first, better_lower, better_not}
-use native.Mathlib.Omega.{arith}
-use borrow.Author.Rules.{rules}
 use Rattle.ending.proofs.better.Goals as goal
 
 pub returns-then-not-passes : goal.returns-then-not-passes

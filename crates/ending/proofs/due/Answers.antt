@@ -1,6 +1,4 @@
 use Rattle.ending.proofs.Laws.{due_is}
-use native.Mathlib.Omega.{arith}
-use borrow.Author.Rules.{rules}
 use Rattle.ending.proofs.due.Goals as goal
 
 pub returns : goal.returns

@@ -1,11 +1,8 @@
-use Rattle.ending.proofs.Laws.{end_stop, end_more, end_last}
 use Rattle.cells.specs.Walk.{walked, end_cells}
 use Rattle.model.specs.Sizes.{wait_places}
 use lib.ListN.{length}
-use mathlib.Core.Path.{◌≡◌, refl, sym, ◌∙◌}
-use Prim.Native.Nat.{ℕ, ◌≤◌, ◌-◌}
-use native.Mathlib.Omega.{arith}
-use borrow.Author.Rules.{rules}
+use mathlib.Core.Path.{◌≡◌}
+use Prim.Native.Nat.{◌≤◌, ◌-◌}
 use Rattle.ending.proofs.end_due.Given as goal
 
 abbrev pub invariant-loop-k : goal.invariant-loop-k

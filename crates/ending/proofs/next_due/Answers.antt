@@ -1,10 +1,8 @@
 use Rattle.cells.specs.Walk.{due_at}
-use Rattle.cells.specs.Waits.{better, lowest}
+use Rattle.cells.specs.Waits.{lowest}
 use Rattle.ending.proofs.Laws.{lowest_start, lowest_more}
-use Rattle.cells.specs.Fold.{fold_below}
 use Rattle.model.specs.Sizes.{wait_places}
-use mathlib.Core.Path.{◌≡◌, ap}
-use Prim.Native.Nat.{ℕ, ◌≤◌, ◌-◌}
+use mathlib.Core.Path.{◌≡◌}
 use native.Mathlib.Omega.{arith}
 use borrow.Author.Rules.{rules}
 use Rattle.ending.proofs.next_due.Goals as goal

@@ -1,12 +1,9 @@
 use Rattle.cells.specs.Walk.{due_at}
-use Rattle.cells.specs.Waits.{better, lowest}
-use Rattle.ending.proofs.Laws.{lowest_start, lowest_more}
+use Rattle.cells.specs.Waits.{better}
 use Rattle.cells.specs.Fold.{fold_below}
 use Rattle.model.specs.Sizes.{wait_places}
-use mathlib.Core.Path.{◌≡◌, ap}
-use Prim.Native.Nat.{ℕ, ◌≤◌, ◌-◌}
-use native.Mathlib.Omega.{arith}
-use borrow.Author.Rules.{rules}
+use mathlib.Core.Path.{◌≡◌}
+use Prim.Native.Nat.{◌≤◌, ◌-◌}
 use Rattle.ending.proofs.next_due.Given as goal
 
 abbrev pub invariant-loop-i : goal.invariant-loop-i

@@ -1,10 +1,9 @@
-use Rattle.cells.specs.Waits.{ticket_at, better, lowest, next_wait}
+use Rattle.cells.specs.Waits.{ticket_at, lowest, next_wait}
 use lib.Dec.{ltb}
 use Rattle.ending.proofs.Laws.{lowest_start, lowest_more}
-use Rattle.cells.specs.Fold.{fold_below}
 use Rattle.model.specs.Sizes.{wait_places}
 use mathlib.Core.Path.{◌≡◌, ap}
-use Prim.Native.Nat.{ℕ, ◌≤◌, ◌-◌}
+use Prim.Native.Nat.{ℕ}
 use native.Mathlib.Omega.{arith}
 use borrow.Author.Rules.{rules}
 use Rattle.ending.proofs.next_wait.Goals as goal

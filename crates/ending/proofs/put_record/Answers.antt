@@ -2,7 +2,6 @@ use lib.ListN.{length-set}
 use Rattle.cells.specs.Waits.{put_record}
 use mathlib.Core.Path.{refl}
 use native.Mathlib.Omega.{arith}
-use borrow.Author.Rules.{rules}
 use Rattle.ending.proofs.put_record.Goals as goal
 
 pub bounds-wake-at-2 : goal.bounds-wake-at-2

@@ -1,4 +1,4 @@
-use Rattle.std.proofs.Common.{◌+◌, ◌*◌, sym, arith, rules, le-ltb, lt-ltb}
+use Rattle.std.proofs.Common.{◌+◌, ◌*◌, sym, arith, le-ltb, lt-ltb}
 use Rattle.lines.proofs.Laws.{ltb_moved}
 use Rattle.lines.proofs.above.Goals as goal
 

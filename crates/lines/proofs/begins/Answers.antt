@@ -1,5 +1,4 @@
-use Rattle.std.proofs.Common.{◌≡◌, ◌+◌, ◌-◌, ◌≤◌, length, drop, arith, rules}
-use Rattle.lines.specs.Outcome.{leads}
+use Rattle.std.proofs.Common.{arith}
 use Rattle.lines.proofs.Laws.{begins_start, begins_short, begins_other, begins_more, begins_all}
 use Rattle.lines.proofs.begins.Goals as goal
 

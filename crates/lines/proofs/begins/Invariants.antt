@@ -1,6 +1,5 @@
-use Rattle.std.proofs.Common.{◌≡◌, ◌+◌, ◌-◌, ◌≤◌, length, drop, arith, rules}
+use Rattle.std.proofs.Common.{◌≡◌, ◌+◌, ◌-◌, ◌≤◌, length, drop}
 use Rattle.lines.specs.Outcome.{leads}
-use Rattle.lines.proofs.Laws.{begins_start, begins_short, begins_other, begins_more, begins_all}
 use Rattle.lines.proofs.begins.Given as goal
 
 abbrev pub invariant-loop-i : goal.invariant-loop-i

@@ -1,5 +1,4 @@
-use Rattle.std.proofs.Common.{sym, ◌∙◌, rules}
-use borrow.Author.Tests.{not-true, not-false}
+use Rattle.std.proofs.Common.{sym, ◌∙◌}
 use Rattle.lines.proofs.Laws.{either_first, either_second, either_none}
 use Rattle.lines.proofs.either.Goals as goal
 

@@ -1,6 +1,5 @@
 use Rattle.lines.proofs.Laws.{refused, ended_not, ended_good}
-use borrow.Author.Tests.{not-true, not-false}
-use Rattle.std.proofs.Common.{drop, sym, ◌∙◌, rules}
+use Rattle.std.proofs.Common.{drop, sym, ◌∙◌}
 use Rattle.lines.proofs.ended.Goals as goal
 
 pub returns-then-not-feed : goal.returns-then-not-feed

@@ -1,6 +1,5 @@
-use Rattle.lines.proofs.Laws.{digit_within, refused, Reached, number_none, number_over, number_zero, number_is, reached_first, reached_more}
-use Rattle.lines.specs.Outcome.{figure}
-use Rattle.std.proofs.Common.{◌≡◌, ◌+◌, ◌-◌, ◌*◌, ◌^◌, ◌<◌, ◌≤◌, length, drop, sym, refl, ◌∙◌, arith, rules, ltb-false, ltb-true}
+use Rattle.lines.proofs.Laws.{digit_within, refused, number_none, number_over, number_zero, number_is, reached_first, reached_more}
+use Rattle.std.proofs.Common.{◌+◌, ◌*◌, ◌^◌, ◌<◌, drop, sym, refl, ◌∙◌, arith, rules, ltb-false, ltb-true}
 use Rattle.lines.proofs.number.Goals as goal
 
 pub returns-then-n-gt9 : goal.returns-then-n-gt9

@@ -1,6 +1,6 @@
-use Rattle.lines.proofs.Laws.{digit_within, refused, Reached, number_none, number_over, number_zero, number_is, reached_first, reached_more}
+use Rattle.lines.proofs.Laws.{Reached}
 use Rattle.lines.specs.Outcome.{figure}
-use Rattle.std.proofs.Common.{◌≡◌, ◌+◌, ◌-◌, ◌*◌, ◌^◌, ◌<◌, ◌≤◌, length, drop, sym, refl, ◌∙◌, arith, rules, ltb-false, ltb-true}
+use Rattle.std.proofs.Common.{◌≡◌, ◌-◌, ◌≤◌, length, drop}
 use Rattle.lines.proofs.number.Given as goal
 
 abbrev pub invariant-loop-d : goal.invariant-loop-d

@@ -1,6 +1,6 @@
 use Rattle.lines.proofs.Laws.{leads_end, refused, line_keyless, line_unread, line_low, line_read}
 use borrow.Author.Tests.{not-true, not-false}
-use Rattle.std.proofs.Common.{drop, sym, ◌∙◌, rules}
+use Rattle.std.proofs.Common.{drop, sym, ◌∙◌}
 use Rattle.lines.proofs.number_line.Goals as goal
 
 pub returns-then-not-keyed : goal.returns-then-not-keyed

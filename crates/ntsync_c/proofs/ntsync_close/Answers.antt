@@ -1,4 +1,3 @@
-use borrow.Author.Rules.{rules}
 use Rattle.ntsync_c.proofs.ntsync_close.Goals as goal
 
 pub returns : goal.returns

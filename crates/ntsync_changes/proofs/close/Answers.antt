@@ -3,7 +3,6 @@ use mathlib.Core.Path.{ap}
 use Rattle.model.specs.Calls.{close}
 use Rattle.ntsync_guard.proofs.Laws.{found_length, corrupt, served}
 use native.Mathlib.Omega.{arith}
-use borrow.Author.Rules.{rules}
 use Rattle.ntsync_changes.proofs.close.Goals as goal
 
 pub returns-then-corrupt : goal.returns-then-corrupt

@@ -1,8 +1,6 @@
 use mathlib.Core.Path.{sym}
 use Prim.Native.Nat.{◌*◌}
 use lib.Seq.{length-take-le}
-use native.Mathlib.Omega.{arith}
-use borrow.Author.Rules.{rules}
 use Rattle.ntsync_fronts.proofs.front.Goals as goal
 
 pub slice_bounds-result-end : goal.slice_bounds-result-end

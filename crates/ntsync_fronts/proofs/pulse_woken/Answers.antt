@@ -1,8 +1,5 @@
-use mathlib.Core.List.{[]}
 use Rattle.model.specs.Calls.{signal, pulse_event, wake_lent, asks}
 use Rattle.ntsync_fronts.proofs.Laws.{front_room, handed_is}
-use native.Mathlib.Omega.{arith}
-use borrow.Author.Rules.{rules}
 use Rattle.ntsync_fronts.proofs.pulse_woken.Goals as goal
 
 pub front-requires : goal.front-requires

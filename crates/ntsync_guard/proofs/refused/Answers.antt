@@ -1,8 +1,6 @@
 use mathlib.Core.Bool.{not}
 use mathlib.Core.Path.{sym, ap}
 use Rattle.ntsync_guard.proofs.Laws.{refused_corrupt, refused_short, refused_none}
-use native.Mathlib.Omega.{arith}
-use borrow.Author.Rules.{rules}
 use Rattle.ntsync_guard.proofs.refused.Goals as goal
 
 pub returns-then-not-sound : goal.returns-then-not-sound

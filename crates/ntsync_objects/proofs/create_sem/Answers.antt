@@ -1,7 +1,6 @@
 use Rattle.model.specs.Calls.{a_semaphore}
 use Rattle.ntsync_objects.proofs.Laws.{creates}
 use native.Mathlib.Omega.{arith}
-use borrow.Author.Rules.{rules}
 use Rattle.ntsync_objects.proofs.create_sem.Goals as goal
 
 pub returns : goal.returns

@@ -1,6 +1,4 @@
 use Rattle.ntsync_objects.proofs.Laws.{made, not_made}
-use native.Mathlib.Omega.{arith}
-use borrow.Author.Rules.{rules}
 use Rattle.ntsync_objects.proofs.init.Goals as goal
 
 pub returns-then-tables-ne-TABLE_LENGTH : goal.returns-then-tables-ne-TABLE_LENGTH

@@ -1,10 +1,7 @@
 use mathlib.Core.Bool.{not}
 use mathlib.Core.Path.{ap}
-use mathlib.Core.List.{[]}
 use Rattle.model.specs.Calls.{nothing_lent}
 use Rattle.ntsync_guard.proofs.Laws.{found_length, guarded_out, guarded_in}
-use native.Mathlib.Omega.{arith}
-use borrow.Author.Rules.{rules}
 use Rattle.ntsync_objects.proofs.place.Goals as goal
 
 pub returns-then-corrupt : goal.returns-then-corrupt

@@ -3,7 +3,6 @@ use mathlib.Core.Path.{ap}
 use Rattle.model.specs.Calls.{read, an_event}
 use Rattle.ntsync_guard.proofs.Laws.{found_length, found_valid, corrupt, served}
 use native.Mathlib.Omega.{arith}
-use borrow.Author.Rules.{rules}
 use Rattle.ntsync_reads.proofs.read_event.Goals as goal
 
 pub returns-then-corrupt : goal.returns-then-corrupt

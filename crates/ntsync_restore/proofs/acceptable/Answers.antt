@@ -1,9 +1,7 @@
 use mathlib.Core.Path.{sym, ◌∙◌}
 use Rattle.refine.proofs.Validity.{valid_length}
-use borrow.Author.Tests.{not-true, not-false}
 use Rattle.ntsync_restore.proofs.Laws.{not_in_order, not_valid, if_quiet}
 use native.Mathlib.Omega.{arith}
-use borrow.Author.Rules.{rules}
 use Rattle.ntsync_restore.proofs.acceptable.Goals as goal
 
 pub returns-then-not-in_order : goal.returns-then-not-in_order

@@ -4,7 +4,6 @@ use lib.ListN.{length, length-replicate}
 use Rattle.model.specs.Layout.{table_length}
 use borrow.Author.Tests.{not-true, not-false}
 use Rattle.ntsync_restore.proofs.Laws.{not_read, not_accepted, read_back}
-use borrow.Author.Rules.{rules}
 use Rattle.ntsync_restore.proofs.judge.Goals as goal
 
 pub read_snapshot-lines-requires : goal.read_snapshot-lines-requires

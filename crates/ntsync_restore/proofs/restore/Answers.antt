@@ -1,6 +1,5 @@
 use Rattle.ntsync_restore.proofs.Laws.{wrong_length, refused_whole, accepted_whole}
 use native.Mathlib.Omega.{arith}
-use borrow.Author.Rules.{rules}
 use Rattle.ntsync_restore.proofs.restore.Goals as goal
 
 pub returns-then-tables-ne-TABLE_LENGTH : goal.returns-then-tables-ne-TABLE_LENGTH

@@ -1,6 +1,5 @@
 use Rattle.ntsync_signals.proofs.Laws.{wakes_length, wakes_long, expire_refused, expire_done}
 use native.Mathlib.Omega.{arith}
-use borrow.Author.Rules.{rules}
 use Rattle.ntsync_signals.proofs.expire.Goals as goal
 
 pub returns-then-answer-ne0 : goal.returns-then-answer-ne0

@@ -1,7 +1,6 @@
 use Rattle.model.specs.Calls.{pulse_event}
 use Rattle.ntsync_signals.proofs.Laws.{wakes_valid, wakes_length, wakes_long, signal_refused, signal_done}
 use native.Mathlib.Omega.{arith}
-use borrow.Author.Rules.{rules}
 use Rattle.ntsync_signals.proofs.pulse.Goals as goal
 
 pub returns-then-answer-ne0 : goal.returns-then-answer-ne0

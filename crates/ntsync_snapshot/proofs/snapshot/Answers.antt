@@ -3,7 +3,6 @@ use mathlib.Core.Path.{ap}
 use Rattle.ntsync_guard.proofs.Laws.{found_length}
 use Rattle.ntsync_snapshot.proofs.Laws.{snapshot_corrupt, snapshot_refused, snapshot_low, snapshot_room, snapshot_done}
 use native.Mathlib.Omega.{arith}
-use borrow.Author.Rules.{rules}
 use Rattle.ntsync_snapshot.proofs.snapshot.Goals as goal
 
 pub returns-then-corrupt : goal.returns-then-corrupt

@@ -1,12 +1,9 @@
 use mathlib.Core.Bool.{not}
 use mathlib.Core.Path.{ap}
-use mathlib.Core.List.{[]}
 use Rattle.model.specs.Calls.{nothing_lent}
-use Rattle.waits.specs.Values.{waited_by}
 use Rattle.ntsync_guard.proofs.Laws.{found_length, guarded_out, guarded_in}
 use Rattle.ntsync_waits.proofs.Laws.{index_small}
 use native.Mathlib.Omega.{arith}
-use borrow.Author.Rules.{rules}
 use Rattle.ntsync_waits.proofs.wait.Goals as goal
 
 pub returns-then-corrupt : goal.returns-then-corrupt

@@ -2,7 +2,6 @@ use Rattle.model.specs.Waits.{any}
 use Rattle.model.specs.Calls.{wait, nothing_lent}
 use Rattle.ntsync_guard.proofs.Laws.{means}
 use native.Mathlib.Omega.{arith}
-use borrow.Author.Rules.{rules}
 use Rattle.ntsync_waits.proofs.wait_any.Goals as goal
 
 pub returns : goal.returns

@@ -3,7 +3,6 @@ use mathlib.Core.Path.{◌∙◌, ap}
 use lib.ListN.{length}
 use lib.Dec.{ltb}
 use Rattle.quiet.proofs.Laws.{any_serves, all_serves}
-use borrow.Author.Rules.{rules}
 use Rattle.quiet.proofs.list_serves.Goals as goal
 
 pub returns-then-mode-eq0 : goal.returns-then-mode-eq0

@@ -1,12 +1,8 @@
 use Prim.Native.Nat.{◌≤◌, ◌-◌}
-use mathlib.Core.Path.{◌≡◌, ap, ◌∙◌}
-use mathlib.Core.Bool.{Bool, false, not, ◌||◌}
+use mathlib.Core.Path.{◌≡◌}
 use Rattle.model.specs.Sizes.{wait_places}
 use Rattle.cells.specs.Fold.{some_below}
 use Rattle.cells.specs.Attempt.{ready_at}
-use Rattle.cells.proofs.Fold.{fold_none, some_more}
-use native.Mathlib.Omega.{arith}
-use borrow.Author.Rules.{rules}
 use Rattle.quiet.proofs.quiet.Given as goal
 
 abbrev pub invariant-loop-p : goal.invariant-loop-p

@@ -1,6 +1,5 @@
 use mathlib.Core.Path.{◌∙◌}
 use Rattle.quiet.proofs.Laws.{ready_free, ready_queued}
-use borrow.Author.Rules.{rules}
 use Rattle.quiet.proofs.ready_at.Goals as goal
 
 pub returns-then-ticket-eq0 : goal.returns-then-ticket-eq0

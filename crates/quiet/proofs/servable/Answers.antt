@@ -1,6 +1,5 @@
 use mathlib.Core.Path.{◌∙◌}
 use Rattle.quiet.proofs.Laws.{served_by_list, served_by_alert}
-use borrow.Author.Rules.{rules}
 use Rattle.quiet.proofs.servable.Goals as goal
 
 pub returns-then-here : goal.returns-then-here

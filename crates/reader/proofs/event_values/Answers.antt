@@ -10,8 +10,6 @@ use mathlib.Core.Bool.{not, false}
 use lib.Dec.{eqb}
 use lib.ListN.{drop}
 use Rattle.lines.proofs.Laws.{seq_stop, seq_on, seq_last}
-use native.Mathlib.Omega.{arith}
-use borrow.Author.Rules.{rules}
 use Rattle.reader.proofs.event_values.Goals as goal
 
 pub returns-then-not-s : goal.returns-then-not-s

@@ -4,7 +4,6 @@ use lib.Dec.{lit≤}
 use mathlib.Core.Path.{sym, ◌∙◌}
 use Rattle.model.specs.Calls.{a_semaphore, a_mutex, an_event}
 use Rattle.lines.proofs.Laws.{word_here, word_next, word_none}
-use borrow.Author.Rules.{rules}
 use Rattle.reader.proofs.kind_line.Goals as goal
 
 pub returns-then-semaphore : goal.returns-then-semaphore

@@ -10,8 +10,6 @@ use mathlib.Core.Bool.{not, false}
 use lib.Dec.{eqb}
 use lib.ListN.{drop}
 use Rattle.lines.proofs.Laws.{seq_stop, seq_on, seq_last}
-use native.Mathlib.Omega.{arith}
-use borrow.Author.Rules.{rules}
 use Rattle.reader.proofs.mutex_values.Goals as goal
 
 pub returns-then-not-o : goal.returns-then-not-o

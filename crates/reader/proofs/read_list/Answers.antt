@@ -1,14 +1,13 @@
 use borrow.Author.Tests.{not-true, not-false}
-use Prim.Native.Nat.{◌≤◌, ◌-◌}
+use Prim.Native.Nat.{◌-◌}
 use mathlib.Core.Path.{◌≡◌, refl}
-use lib.ListN.{length, take, drop, length-set}
+use lib.ListN.{drop, length-set}
 use Rattle.model.specs.Sizes.{object_places}
 use Rattle.model.specs.Snapshot.{line}
 use Rattle.lines.specs.Outcome.{number_of}
-use Rattle.model.specs.Reading.{number_line, times}
-use Rattle.lines.proofs.Laws.{ahead, ahead_start, list_all, list_stop, list_more}
+use Rattle.model.specs.Reading.{number_line}
+use Rattle.lines.proofs.Laws.{ahead_start, list_all, list_stop, list_more}
 use native.Mathlib.Omega.{arith}
-use borrow.Author.Rules.{rules}
 use Rattle.reader.proofs.read_list.Goals as goal
 
 pub loop-i-init : goal.loop-i-init

@@ -9,7 +9,6 @@ use Rattle.reader.specs.Values.{kind_words, kind_of}
 use mathlib.Core.Path.{refl}
 use lib.ListN.{drop}
 use Rattle.lines.proofs.Laws.{seq_stop, seq_on, seq_last}
-use borrow.Author.Rules.{rules}
 use Rattle.reader.proofs.read_object.Goals as goal
 
 pub returns-then-not-h : goal.returns-then-not-h

@@ -1,10 +1,7 @@
 use borrow.Author.Tests.{not-true, not-false}
-use Prim.Native.Nat.{◌≤◌, ◌-◌}
-use mathlib.Core.Path.{◌≡◌, refl}
-use lib.ListN.{length}
-use Rattle.reader.proofs.Laws.{Going, going_start, going_stop, going_more, going_end}
+use mathlib.Core.Path.{refl}
+use Rattle.reader.proofs.Laws.{going_start, going_stop, going_more, going_end}
 use native.Mathlib.Omega.{arith}
-use borrow.Author.Rules.{rules}
 use Rattle.reader.proofs.read_objects.Goals as goal
 
 pub loop-i-init : goal.loop-i-init

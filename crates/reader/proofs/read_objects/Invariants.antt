@@ -1,10 +1,7 @@
-use borrow.Author.Tests.{not-true, not-false}
 use Prim.Native.Nat.{◌≤◌, ◌-◌}
-use mathlib.Core.Path.{◌≡◌, refl}
+use mathlib.Core.Path.{◌≡◌}
 use lib.ListN.{length}
-use Rattle.reader.proofs.Laws.{Going, going_start, going_stop, going_more, going_end}
-use native.Mathlib.Omega.{arith}
-use borrow.Author.Rules.{rules}
+use Rattle.reader.proofs.Laws.{Going}
 use Rattle.reader.proofs.read_objects.Given as goal
 
 abbrev pub invariant-loop-i : goal.invariant-loop-i

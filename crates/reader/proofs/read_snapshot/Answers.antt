@@ -8,7 +8,6 @@ use Rattle.model.specs.Reading.{number_line}
 use Rattle.lines.specs.Outcome.{number_of}
 use Rattle.lines.proofs.Laws.{number_most}
 use Rattle.reader.proofs.Whole.{stop_1, stop_2, stop_3, stop_4, stop_5, stop_6, all_good}
-use borrow.Author.Rules.{rules}
 use Rattle.reader.proofs.read_snapshot.Goals as goal
 
 pub returns-then-not-next : goal.returns-then-not-next

@@ -1,6 +1,5 @@
 use mathlib.Core.Path.{◌≡◌}
 use native.Mathlib.Omega.{arith}
-use borrow.Author.Rules.{rules}
 use Rattle.reader.proofs.read_values.Goals as goal
 
 pub returns-then-kind-eq-KIND : goal.returns-then-kind-eq-KIND

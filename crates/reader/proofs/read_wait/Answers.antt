@@ -10,7 +10,6 @@ use Rattle.model.proofs.Logic.{clash}
 use Rattle.lines.proofs.Laws.{seq_stop, seq_on, seq_last, number_most, either_low}
 use Rattle.reader.proofs.Laws.{mode_one, mode_read, clock_read}
 use native.Mathlib.Omega.{arith}
-use borrow.Author.Rules.{rules}
 use Rattle.reader.proofs.read_wait.Goals as goal
 
 pub returns-then-not-t : goal.returns-then-not-t

@@ -1,13 +1,10 @@
 use Rattle.model.specs.Sizes.{max_listed}
 use Rattle.reader.proofs.Laws.{take_most}
 use borrow.Author.Tests.{not-true, not-false}
-use Prim.Native.Nat.{◌≤◌, ◌-◌}
-use mathlib.Core.Path.{◌≡◌, refl}
-use lib.ListN.{length}
+use mathlib.Core.Path.{refl}
 use Rattle.lines.proofs.Laws.{within_count}
-use Rattle.reader.proofs.Laws.{Queueing, queueing_start, queueing_stop, queueing_more, queueing_end, queued_here}
+use Rattle.reader.proofs.Laws.{queueing_start, queueing_stop, queueing_more, queueing_end, queued_here}
 use native.Mathlib.Omega.{arith}
-use borrow.Author.Rules.{rules}
 use Rattle.reader.proofs.read_waits.Goals as goal
 
 pub loop-p-init : goal.loop-p-init

@@ -1,13 +1,7 @@
-use Rattle.model.specs.Sizes.{max_listed}
-use Rattle.reader.proofs.Laws.{take_most}
-use borrow.Author.Tests.{not-true, not-false}
 use Prim.Native.Nat.{◌≤◌, ◌-◌}
-use mathlib.Core.Path.{◌≡◌, refl}
+use mathlib.Core.Path.{◌≡◌}
 use lib.ListN.{length}
-use Rattle.lines.proofs.Laws.{within_count}
-use Rattle.reader.proofs.Laws.{Queueing, queueing_start, queueing_stop, queueing_more, queueing_end, queued_here}
-use native.Mathlib.Omega.{arith}
-use borrow.Author.Rules.{rules}
+use Rattle.reader.proofs.Laws.{Queueing}
 use Rattle.reader.proofs.read_waits.Given as goal
 
 abbrev pub invariant-loop-p : goal.invariant-loop-p

@@ -7,8 +7,6 @@ use Rattle.model.specs.Reading.{number_line, number32_line, read_values}
 use Rattle.lines.specs.Outcome.{number_of}
 use lib.ListN.{drop}
 use Rattle.lines.proofs.Laws.{seq_stop, seq_on, seq_last}
-use native.Mathlib.Omega.{arith}
-use borrow.Author.Rules.{rules}
 use Rattle.reader.proofs.semaphore_values.Goals as goal
 
 pub returns-then-not-c : goal.returns-then-not-c

@@ -1,7 +1,6 @@
 use Rattle.signals.proofs.Laws.{apply_refused, apply_done}
 use Rattle.kinds.specs.Values.{change_of}
 use native.Mathlib.Omega.{arith}
-use borrow.Author.Rules.{rules}
 use Rattle.signals.proofs.apply.Goals as goal
 
 pub returns-then-c-ne0 : goal.returns-then-c-ne0

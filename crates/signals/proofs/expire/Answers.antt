@@ -1,6 +1,5 @@
 use Rattle.signals.proofs.Laws.{expire_refused, expire_done}
 use native.Mathlib.Omega.{arith}
-use borrow.Author.Rules.{rules}
 use Rattle.signals.proofs.expire.Goals as goal
 
 pub returns-then-clock-gt1 : goal.returns-then-clock-gt1

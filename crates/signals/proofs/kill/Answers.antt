@@ -1,7 +1,5 @@
 use Rattle.signals.proofs.Laws.{signal_is}
 use Rattle.cells.specs.Objects.{kill_fields}
-use native.Mathlib.Omega.{arith}
-use borrow.Author.Rules.{rules}
 use Rattle.signals.proofs.kill.Goals as goal
 
 pub returns : goal.returns

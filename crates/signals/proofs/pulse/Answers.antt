@@ -1,8 +1,6 @@
 use Rattle.signals.proofs.Laws.{pulse_refused, pulse_done}
 use Rattle.cells.specs.Objects.{named}
 use Rattle.kinds.specs.Values.{change_of}
-use native.Mathlib.Omega.{arith}
-use borrow.Author.Rules.{rules}
 use Rattle.signals.proofs.pulse.Goals as goal
 
 pub returns-then-r-ne0 : goal.returns-then-r-ne0

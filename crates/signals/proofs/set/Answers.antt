@@ -3,7 +3,6 @@ use Rattle.refine.proofs.Validity.{small_of}
 use Rattle.cells.specs.Objects.{switch_fields}
 use Rattle.kinds.specs.Values.{cells_of}
 use native.Mathlib.Omega.{arith}
-use borrow.Author.Rules.{rules}
 use Rattle.signals.proofs.set.Goals as goal
 
 pub overflow_cast-previous : goal.overflow_cast-previous

@@ -1,8 +1,7 @@
-use Rattle.snapshot.proofs.Laws.{one_low, counted, counted_more, counted_none}
+use Rattle.snapshot.proofs.Laws.{one_low, counted_more, counted_none}
 use lib.Dec.{ltb}
 use Rattle.model.specs.Sizes.{object_places}
 use mathlib.Core.Path.{◌≡◌, ap}
-use Prim.Native.Nat.{ℕ, ◌-◌, ◌≤◌}
 use Rattle.cells.specs.Snapshot.{object_total}
 use Rattle.cells.specs.Objects.{Fields, fields_at}
 use native.Mathlib.Omega.{arith}

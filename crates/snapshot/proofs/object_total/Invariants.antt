@@ -1,12 +1,9 @@
-use Rattle.snapshot.proofs.Laws.{one_low, counted, counted_more, counted_none}
+use Rattle.snapshot.proofs.Laws.{counted}
 use lib.Dec.{ltb}
 use Rattle.model.specs.Sizes.{object_places}
-use mathlib.Core.Path.{◌≡◌, ap}
-use Prim.Native.Nat.{ℕ, ◌-◌, ◌≤◌}
-use Rattle.cells.specs.Snapshot.{object_total}
-use Rattle.cells.specs.Objects.{Fields, fields_at}
-use native.Mathlib.Omega.{arith}
-use borrow.Author.Rules.{rules}
+use mathlib.Core.Path.{◌≡◌}
+use Prim.Native.Nat.{◌-◌, ◌≤◌}
+use Rattle.cells.specs.Objects.{fields_at}
 use Rattle.snapshot.proofs.object_total.Given as goal
 
 abbrev pub invariant-loop-p : goal.invariant-loop-p

@@ -1,7 +1,5 @@
 use Rattle.snapshot.proofs.Laws.{zero_room, zero_wrote, other_room, other_wrote}
 use Rattle.model.specs.Snapshot.{ascii}
-use native.Mathlib.Omega.{arith}
-use borrow.Author.Rules.{rules}
 use Rattle.snapshot.proofs.put_clock.Goals as goal
 
 pub put_text-requires : goal.put_text-requires

@@ -3,7 +3,6 @@ use Rattle.snapshot.proofs.Laws.{room_first, room_second, room_third, room_fourt
 use Rattle.model.specs.Snapshot.{ascii, line}
 use mathlib.Core.List.{List}
 use Prim.Native.Nat.{ℕ}
-use borrow.Author.Rules.{rules}
 use Rattle.snapshot.proofs.put_event.Goals as goal
 
 abbrev handle : ℕ → List ℕ

@@ -1,11 +1,10 @@
 use Rattle.cells.specs.Snapshot.{mode_text_of, clock_text_of, list_text_below, wait_lines}
 use lib.ListN.{length}
 use Rattle.decimal.proofs.Laws.{first_room, then_room, then_wrote}
-use Rattle.model.specs.Snapshot.{ascii, line}
+use Rattle.model.specs.Snapshot.{line}
 use mathlib.Core.List.{List, ◌++◌}
 use Prim.Native.Nat.{ℕ}
 use native.Mathlib.Omega.{arith}
-use borrow.Author.Rules.{rules}
 use Rattle.snapshot.proofs.put_lines.Goals as goal
 
 pub put_line-a-requires : goal.put_line-a-requires

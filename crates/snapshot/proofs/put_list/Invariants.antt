@@ -1,12 +1,9 @@
-use Rattle.snapshot.proofs.Laws.{text_below, text_start, text_room, text_more, text_end}
-use Rattle.cells.specs.Snapshot.{list_text_below}
+use Rattle.snapshot.proofs.Laws.{text_below}
 use Rattle.model.specs.Snapshot.{line}
 use Rattle.decimal.specs.Text.{Wrote}
 use lib.ListN.{length, get_or}
-use mathlib.Core.Path.{◌≡◌, refl}
+use mathlib.Core.Path.{◌≡◌}
 use Prim.Native.Nat.{◌-◌, ◌≤◌}
-use native.Mathlib.Omega.{arith}
-use borrow.Author.Rules.{rules}
 use Rattle.snapshot.proofs.put_list.Given as goal
 
 abbrev pub invariant-loop-i : goal.invariant-loop-i

@@ -1,6 +1,4 @@
 use Rattle.model.specs.Snapshot.{line}
-use native.Mathlib.Omega.{arith}
-use borrow.Author.Rules.{rules}
 use Rattle.snapshot.proofs.put_listed.Goals as goal
 
 pub put_line-requires : goal.put_line-requires

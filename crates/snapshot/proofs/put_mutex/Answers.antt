@@ -2,8 +2,6 @@ use Rattle.decimal.proofs.Laws.{first_room, then_room, then_wrote}
 use Rattle.model.specs.Snapshot.{ascii, line}
 use mathlib.Core.List.{List, ◌++◌}
 use Prim.Native.Nat.{ℕ}
-use native.Mathlib.Omega.{arith}
-use borrow.Author.Rules.{rules}
 use Rattle.snapshot.proofs.put_mutex.Goals as goal
 
 pub put_line-kind-requires : goal.put_line-kind-requires

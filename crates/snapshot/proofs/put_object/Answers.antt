@@ -1,7 +1,5 @@
 use Rattle.snapshot.proofs.Laws.{wrote_none, text_semaphore, text_mutex, text_event, text_empty}
 use Rattle.kinds.specs.Values.{cells_of}
-use native.Mathlib.Omega.{arith}
-use borrow.Author.Rules.{rules}
 use Rattle.snapshot.proofs.put_object.Goals as goal
 
 pub put_semaphore-requires : goal.put_semaphore-requires

@@ -1,11 +1,9 @@
-use Rattle.snapshot.proofs.Laws.{text_below, text_start, text_room, text_more, text_end}
+use Rattle.snapshot.proofs.Laws.{text_start, text_room, text_more, text_end}
 use Rattle.cells.specs.Snapshot.{fields_text, objects_text_below}
 use Rattle.cells.specs.Objects.{fields_at}
-use Rattle.decimal.specs.Text.{Wrote}
 use Rattle.model.specs.Sizes.{object_places}
-use lib.ListN.{length}
-use mathlib.Core.Path.{◌≡◌, refl}
-use Prim.Native.Nat.{◌+◌, ◌-◌, ◌≤◌}
+use mathlib.Core.Path.{refl}
+use Prim.Native.Nat.{◌+◌}
 use native.Mathlib.Omega.{arith}
 use borrow.Author.Rules.{rules}
 use Rattle.snapshot.proofs.put_objects.Goals as goal

@@ -1,13 +1,11 @@
-use Rattle.snapshot.proofs.Laws.{text_below, text_start, text_room, text_more, text_end}
-use Rattle.cells.specs.Snapshot.{fields_text, objects_text_below}
+use Rattle.snapshot.proofs.Laws.{text_below}
+use Rattle.cells.specs.Snapshot.{fields_text}
 use Rattle.cells.specs.Objects.{fields_at}
 use Rattle.decimal.specs.Text.{Wrote}
 use Rattle.model.specs.Sizes.{object_places}
 use lib.ListN.{length}
-use mathlib.Core.Path.{◌≡◌, refl}
+use mathlib.Core.Path.{◌≡◌}
 use Prim.Native.Nat.{◌+◌, ◌-◌, ◌≤◌}
-use native.Mathlib.Omega.{arith}
-use borrow.Author.Rules.{rules}
 use Rattle.snapshot.proofs.put_objects.Given as goal
 
 abbrev pub invariant-loop-p : goal.invariant-loop-p

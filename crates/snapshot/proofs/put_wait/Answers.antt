@@ -1,6 +1,4 @@
 use Rattle.snapshot.proofs.Laws.{wait_lines_lem}
-use native.Mathlib.Omega.{arith}
-use borrow.Author.Rules.{rules}
 use Rattle.snapshot.proofs.put_wait.Goals as goal
 
 pub put_lines-requires : goal.put_lines-requires

@@ -1,13 +1,10 @@
 use Rattle.snapshot.proofs.Laws.{wrote_none, rest_end, rest_none, rest_more}
 use Rattle.decimal.proofs.Laws.{first_room, then_room, then_wrote}
-use Rattle.decimal.specs.Text.{Room, Wrote}
 use Rattle.cells.specs.Snapshot.{wait_text_at, waits_text_from}
 use Rattle.cells.specs.Waits.{ticket_at}
 use Rattle.model.specs.Sizes.{wait_places}
-use mathlib.Core.List.{List}
-use mathlib.Core.Path.{◌≡◌, refl}
-use lib.ListN.{length}
-use Prim.Native.Nat.{ℕ, ◌+◌, ◌-◌, ◌≤◌}
+use mathlib.Core.Path.{refl}
+use Prim.Native.Nat.{◌+◌, ◌-◌}
 use native.Mathlib.Omega.{arith}
 use borrow.Author.Rules.{rules}
 use Rattle.snapshot.proofs.put_waits.Goals as goal

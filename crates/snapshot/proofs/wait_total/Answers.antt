@@ -1,8 +1,8 @@
-use Rattle.snapshot.proofs.Laws.{one_low, counted, counted_more, counted_none}
+use Rattle.snapshot.proofs.Laws.{one_low, counted_more, counted_none}
 use lib.Dec.{ltb}
 use Rattle.model.specs.Sizes.{wait_places}
 use mathlib.Core.Path.{◌≡◌, ap}
-use Prim.Native.Nat.{ℕ, ◌-◌, ◌≤◌}
+use Prim.Native.Nat.{ℕ}
 use Rattle.cells.specs.Snapshot.{wait_total}
 use Rattle.cells.specs.Waits.{ticket_at}
 use native.Mathlib.Omega.{arith}

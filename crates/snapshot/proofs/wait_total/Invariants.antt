@@ -1,12 +1,9 @@
-use Rattle.snapshot.proofs.Laws.{one_low, counted, counted_more, counted_none}
+use Rattle.snapshot.proofs.Laws.{counted}
 use lib.Dec.{ltb}
 use Rattle.model.specs.Sizes.{wait_places}
-use mathlib.Core.Path.{◌≡◌, ap}
-use Prim.Native.Nat.{ℕ, ◌-◌, ◌≤◌}
-use Rattle.cells.specs.Snapshot.{wait_total}
+use mathlib.Core.Path.{◌≡◌}
+use Prim.Native.Nat.{◌-◌, ◌≤◌}
 use Rattle.cells.specs.Waits.{ticket_at}
-use native.Mathlib.Omega.{arith}
-use borrow.Author.Rules.{rules}
 use Rattle.snapshot.proofs.wait_total.Given as goal
 
 abbrev pub invariant-loop-p : goal.invariant-loop-p

@@ -2,8 +2,6 @@ use mathlib.Core.Path.{◌∙◌, sym}
 use lib.Seq.{length-take-le}
 use Rattle.model.specs.Snapshot.{line}
 use Rattle.snapshot.proofs.Laws.{body_room, summed_room, sum_room, sum_wrote}
-use native.Mathlib.Omega.{arith}
-use borrow.Author.Rules.{rules}
 use Rattle.snapshot.proofs.write.Goals as goal
 
 pub write_body-end-requires : goal.write_body-end-requires

@@ -3,11 +3,9 @@ use Rattle.cells.specs.Snapshot.{objects_text_below, waits_text_from}
 use Rattle.model.specs.Sizes.{object_places, wait_places}
 use mathlib.Core.Path.{sym}
 use Rattle.decimal.proofs.Laws.{first_room, then_room, then_wrote}
-use Rattle.model.specs.Snapshot.{ascii, line}
+use Rattle.model.specs.Snapshot.{line}
 use mathlib.Core.List.{List, ◌++◌}
 use Prim.Native.Nat.{ℕ}
-use native.Mathlib.Omega.{arith}
-use borrow.Author.Rules.{rules}
 use Rattle.snapshot.proofs.write_body.Goals as goal
 
 pub put_line-a-requires : goal.put_line-a-requires

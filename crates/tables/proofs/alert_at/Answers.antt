@@ -1,5 +1,4 @@
 use Rattle.cells.specs.Waits.{alert_at}
-use native.Mathlib.Omega.{arith}
 use borrow.Author.Rules.{rules}
 use Rattle.tables.proofs.alert_at.Goals as goal
 

@@ -1,8 +1,8 @@
 use Rattle.cells.proofs.Fold.{fold_none, fold_more}
-use Rattle.cells.specs.Fold.{or_below, cell_from}
+use Rattle.cells.specs.Fold.{cell_from}
 use lib.Bits.{bit_or}
 use mathlib.Core.Path.{◌≡◌}
-use Prim.Native.Nat.{ℕ, ◌≤◌, ◌-◌}
+use Prim.Native.Nat.{ℕ}
 use native.Mathlib.Omega.{arith}
 use borrow.Author.Rules.{rules}
 use Rattle.tables.proofs.bits_of.Goals as goal

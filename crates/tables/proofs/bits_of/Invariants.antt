@@ -1,10 +1,6 @@
-use Rattle.cells.proofs.Fold.{fold_none, fold_more}
 use Rattle.cells.specs.Fold.{or_below, cell_from}
-use lib.Bits.{bit_or}
 use mathlib.Core.Path.{◌≡◌}
-use Prim.Native.Nat.{ℕ, ◌≤◌, ◌-◌}
-use native.Mathlib.Omega.{arith}
-use borrow.Author.Rules.{rules}
+use Prim.Native.Nat.{◌≤◌, ◌-◌}
 use Rattle.tables.proofs.bits_of.Given as goal
 
 abbrev pub invariant-loop-k : goal.invariant-loop-k

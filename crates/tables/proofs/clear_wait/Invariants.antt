@@ -1,13 +1,9 @@
-use Rattle.cells.specs.Waits.{wait_cell, clear_wait}
+use Rattle.cells.specs.Waits.{wait_cell}
 use Rattle.model.specs.Layout.{wait_size}
-use Rattle.cells.proofs.Fold.{fold_none, fold_more}
 use Rattle.cells.specs.Fold.{fold_below}
-use lib.ListN.{length, set, length-set}
-use mathlib.Core.Path.{◌≡◌, refl}
-use mathlib.Core.List.{List}
-use Prim.Native.Nat.{ℕ, ◌+◌, ◌≤◌, ◌-◌}
-use native.Mathlib.Omega.{arith}
-use borrow.Author.Rules.{rules}
+use lib.ListN.{length, set}
+use mathlib.Core.Path.{◌≡◌}
+use Prim.Native.Nat.{◌+◌, ◌≤◌, ◌-◌}
 use Rattle.tables.proofs.clear_wait.Given as goal
 
 abbrev pub invariant-loop-i : goal.invariant-loop-i

@@ -1,5 +1,4 @@
 use Rattle.cells.specs.Waits.{clock_at}
-use native.Mathlib.Omega.{arith}
 use borrow.Author.Rules.{rules}
 use Rattle.tables.proofs.clock_at.Goals as goal
 

@@ -1,8 +1,6 @@
-use Prim.Native.Nat.{◌≤◌, ◌-◌}
-use mathlib.Core.Path.{◌≡◌, refl, sym, ◌∙◌}
-use lib.ListN.{length, take, length-set}
+use mathlib.Core.Path.{refl, sym, ◌∙◌}
+use lib.ListN.{length-set}
 use lib.Seq.{take_all}
-use Rattle.model.specs.Layout.{table_length}
 use Rattle.tables.proofs.Laws.{copied}
 use native.Mathlib.Omega.{arith}
 use borrow.Author.Rules.{rules}

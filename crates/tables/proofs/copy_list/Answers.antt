@@ -1,9 +1,7 @@
 use Rattle.tables.proofs.Laws.{copied, copy_is, count_le}
 use Rattle.refine.proofs.Validity.{list_length}
-use Rattle.model.specs.Sizes.{max_listed}
-use lib.ListN.{length, take, length-set}
-use mathlib.Core.Path.{◌≡◌, refl, ap}
-use Prim.Native.Nat.{◌≤◌, ◌-◌}
+use lib.ListN.{length, length-set}
+use mathlib.Core.Path.{refl, ap}
 use native.Mathlib.Omega.{arith}
 use borrow.Author.Rules.{rules}
 use Rattle.tables.proofs.copy_list.Goals as goal

@@ -1,11 +1,7 @@
-use Rattle.tables.proofs.Laws.{copied, copy_is, count_le}
-use Rattle.refine.proofs.Validity.{list_length}
 use Rattle.model.specs.Sizes.{max_listed}
-use lib.ListN.{length, take, length-set}
-use mathlib.Core.Path.{◌≡◌, refl, ap}
+use lib.ListN.{length, take}
+use mathlib.Core.Path.{◌≡◌}
 use Prim.Native.Nat.{◌≤◌, ◌-◌}
-use native.Mathlib.Omega.{arith}
-use borrow.Author.Rules.{rules}
 use Rattle.tables.proofs.copy_list.Given as goal
 
 abbrev pub invariant-loop-i : goal.invariant-loop-i

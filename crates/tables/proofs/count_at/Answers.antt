@@ -1,6 +1,4 @@
 use Rattle.tables.proofs.Laws.{count_is, count_none}
-use native.Mathlib.Omega.{arith}
-use borrow.Author.Rules.{rules}
 use Rattle.tables.proofs.count_at.Goals as goal
 
 pub returns-then-n : goal.returns-then-n

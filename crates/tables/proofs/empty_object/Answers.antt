@@ -4,12 +4,8 @@ use Rattle.cells.specs.Objects.{fields_at}
 use Rattle.kinds.specs.Values.{cells_of}
 use Rattle.model.specs.Sizes.{object_places}
 use Rattle.cells.proofs.Fold.{search_found, search_on, search_end}
-use Rattle.cells.specs.Fold.{search_from}
 use lib.Dec.{eqb}
-use mathlib.Core.Path.{◌≡◌, refl, sym, ◌∙◌}
-use mathlib.Core.List.{List}
-use Prim.Native.Nat.{ℕ, ◌≤◌, ◌-◌}
-use native.Mathlib.Omega.{arith}
+use mathlib.Core.Path.{refl, sym, ◌∙◌}
 use borrow.Author.Rules.{rules}
 use Rattle.tables.proofs.empty_object.Goals as goal
 

@@ -1,6 +1,4 @@
 use Rattle.tables.proofs.Laws.{free_zero}
-use native.Mathlib.Omega.{arith}
-use borrow.Author.Rules.{rules}
 use Rattle.tables.proofs.free_zero.Goals as goal
 
 pub returns : goal.returns

@@ -1,14 +1,8 @@
-use Rattle.cells.proofs.Fold.{fold_none, fold_more}
-use Rattle.cells.specs.Waits.{has}
 use Rattle.cells.specs.Fold.{some_below}
 use mathlib.Core.Path.{◌≡◌}
-use mathlib.Core.List.{List}
-use mathlib.Core.Bool.{Bool, false, ◌||◌}
-use Prim.Native.Nat.{ℕ, ◌≤◌, ◌-◌}
+use Prim.Native.Nat.{◌≤◌, ◌-◌}
 use lib.Dec.{eqb}
 use lib.ListN.{length, get_or}
-use native.Mathlib.Omega.{arith}
-use borrow.Author.Rules.{rules}
 use Rattle.tables.proofs.has.Given as goal
 
 abbrev pub invariant-loop-i : goal.invariant-loop-i

@@ -1,6 +1,5 @@
 use Rattle.tables.proofs.Laws.{count_le, list_part}
 use native.Mathlib.Omega.{arith}
-use borrow.Author.Rules.{rules}
 use Rattle.tables.proofs.list_of.Goals as goal
 
 pub overflow_add-end : goal.overflow_add-end

@@ -1,6 +1,5 @@
 use Rattle.tables.proofs.Laws.{listed_is, count_le}
 use native.Mathlib.Omega.{arith}
-use borrow.Author.Rules.{rules}
 use Rattle.tables.proofs.listed.Goals as goal
 
 pub overflow_add-i : goal.overflow_add-i

@@ -1,12 +1,8 @@
 use Rattle.tables.proofs.Laws.{made_is}
-use Rattle.cells.specs.Calls.{made_cells}
 use Rattle.model.specs.Layout.{table_length}
 use Rattle.cells.proofs.Fold.{fold_none, fold_more}
-use Rattle.cells.specs.Fold.{fold_below}
-use lib.ListN.{length, set, length-set}
+use lib.ListN.{set, length-set}
 use mathlib.Core.Path.{◌≡◌, refl}
-use mathlib.Core.List.{List}
-use Prim.Native.Nat.{ℕ, ◌+◌, ◌≤◌, ◌-◌}
 use native.Mathlib.Omega.{arith}
 use borrow.Author.Rules.{rules}
 use Rattle.tables.proofs.make.Goals as goal

@@ -1,5 +1,4 @@
 use Rattle.cells.specs.Waits.{mode_at}
-use native.Mathlib.Omega.{arith}
 use borrow.Author.Rules.{rules}
 use Rattle.tables.proofs.mode_at.Goals as goal
 

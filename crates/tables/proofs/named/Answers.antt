@@ -1,7 +1,6 @@
 use mathlib.Core.Path.{sym, ◌∙◌}
 use Rattle.tables.proofs.Laws.{handle_low, named_at, named_none}
 use native.Mathlib.Omega.{arith}
-use borrow.Author.Rules.{rules}
 use Rattle.tables.proofs.named.Goals as goal
 
 pub overflow_sub-h : goal.overflow_sub-h

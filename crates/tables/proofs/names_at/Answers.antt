@@ -1,7 +1,5 @@
 use mathlib.Core.Path.{sym}
-use Rattle.cells.specs.Waits.{has, names_at}
-use native.Mathlib.Omega.{arith}
-use borrow.Author.Rules.{rules}
+use Rattle.cells.specs.Waits.{names_at}
 use Rattle.tables.proofs.names_at.Goals as goal
 
 pub returns : goal.returns

@@ -1,6 +1,5 @@
 use Rattle.tables.proofs.Laws.{count_le, names_part}
 use native.Mathlib.Omega.{arith}
-use borrow.Author.Rules.{rules}
 use Rattle.tables.proofs.names_of.Goals as goal
 
 pub overflow_add-end : goal.overflow_add-end

@@ -1,6 +1,4 @@
 use Rattle.tables.proofs.Laws.{fields_at_lem}
-use native.Mathlib.Omega.{arith}
-use borrow.Author.Rules.{rules}
 use Rattle.tables.proofs.object_at.Goals as goal
 
 pub returns : goal.returns

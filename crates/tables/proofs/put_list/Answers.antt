@@ -1,12 +1,11 @@
 use Rattle.cells.proofs.Fold.{fold_none, fold_more}
 use Rattle.cells.specs.Calls.{put_list}
 use Rattle.cells.specs.Waits.{wait_cell}
-use Rattle.cells.specs.Fold.{fold_below}
 use Rattle.model.specs.Layout.{header_size}
 use lib.ListN.{length, get_or, set, length-set}
 use mathlib.Core.List.{List}
 use mathlib.Core.Path.{◌≡◌, refl}
-use Prim.Native.Nat.{ℕ, ◌+◌, ◌≤◌, ◌-◌}
+use Prim.Native.Nat.{ℕ, ◌+◌}
 use native.Mathlib.Omega.{arith}
 use borrow.Author.Rules.{rules}
 use Rattle.tables.proofs.put_list.Goals as goal

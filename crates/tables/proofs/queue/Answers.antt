@@ -1,7 +1,6 @@
 use lib.ListN.{length-set}
 use Rattle.tables.proofs.Laws.{queued_is}
 use native.Mathlib.Omega.{arith}
-use borrow.Author.Rules.{rules}
 use Rattle.tables.proofs.queue.Goals as goal
 
 pub shape_of-t : goal.shape_of-t

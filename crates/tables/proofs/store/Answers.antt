@@ -2,7 +2,6 @@ use mathlib.Core.Path.{sym, ◌∙◌}
 use Rattle.tables.proofs.Laws.{handle_low, store_at, store_none}
 use Rattle.kinds.specs.Values.{cells_of}
 use native.Mathlib.Omega.{arith}
-use borrow.Author.Rules.{rules}
 use Rattle.tables.proofs.store.Goals as goal
 
 pub overflow_sub-h : goal.overflow_sub-h

@@ -3,12 +3,8 @@ use Rattle.cells.specs.Calls.{ticket_place}
 use Rattle.cells.specs.Waits.{ticket_at}
 use Rattle.model.specs.Sizes.{wait_places}
 use Rattle.cells.proofs.Fold.{search_found, search_on, search_end}
-use Rattle.cells.specs.Fold.{search_from}
 use lib.Dec.{eqb}
-use mathlib.Core.Path.{◌≡◌, refl, sym, ◌∙◌}
-use mathlib.Core.List.{List}
-use Prim.Native.Nat.{ℕ, ◌≤◌, ◌-◌}
-use native.Mathlib.Omega.{arith}
+use mathlib.Core.Path.{refl, sym, ◌∙◌}
 use borrow.Author.Rules.{rules}
 use Rattle.tables.proofs.ticket_place.Goals as goal
 

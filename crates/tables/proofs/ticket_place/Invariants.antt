@@ -1,15 +1,10 @@
-use borrow.Author.Tests.{eq-eqb, ne_eqb}
 use Rattle.cells.specs.Calls.{ticket_place}
 use Rattle.cells.specs.Waits.{ticket_at}
 use Rattle.model.specs.Sizes.{wait_places}
-use Rattle.cells.proofs.Fold.{search_found, search_on, search_end}
 use Rattle.cells.specs.Fold.{search_from}
 use lib.Dec.{eqb}
-use mathlib.Core.Path.{◌≡◌, refl, sym, ◌∙◌}
-use mathlib.Core.List.{List}
-use Prim.Native.Nat.{ℕ, ◌≤◌, ◌-◌}
-use native.Mathlib.Omega.{arith}
-use borrow.Author.Rules.{rules}
+use mathlib.Core.Path.{◌≡◌}
+use Prim.Native.Nat.{◌≤◌, ◌-◌}
 use Rattle.tables.proofs.ticket_place.Given as goal
 
 abbrev pub invariant-loop-p : goal.invariant-loop-p

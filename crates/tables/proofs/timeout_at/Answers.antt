@@ -1,5 +1,4 @@
 use Rattle.cells.specs.Waits.{timeout_at}
-use native.Mathlib.Omega.{arith}
 use borrow.Author.Rules.{rules}
 use Rattle.tables.proofs.timeout_at.Goals as goal
 

@@ -1,6 +1,5 @@
 use Rattle.tables.proofs.Laws.{count_le, unused_zero_lem}
 use native.Mathlib.Omega.{arith}
-use borrow.Author.Rules.{rules}
 use Rattle.tables.proofs.unused_zero.Goals as goal
 
 pub overflow_mul-from : goal.overflow_mul-from

@@ -2,11 +2,8 @@ use Rattle.cells.specs.Validity.{alone_at}
 use Rattle.cells.specs.Waits.{ticket_at}
 use lib.Dec.{eqb}
 use Rattle.cells.proofs.Fold.{fold_none, fold_more}
-use Rattle.cells.specs.Fold.{all_below}
 use mathlib.Core.Bool.{Bool, true, not, ◌&&◌}
-use mathlib.Core.List.{List}
-use mathlib.Core.Path.{◌≡◌, refl, sym}
-use Prim.Native.Nat.{ℕ, ◌≤◌, ◌-◌}
+use mathlib.Core.Path.{◌≡◌, sym}
 use native.Mathlib.Omega.{arith}
 use borrow.Author.Rules.{rules}
 use Rattle.validity.proofs.alone.Goals as goal

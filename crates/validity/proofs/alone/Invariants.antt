@@ -1,14 +1,9 @@
-use Rattle.cells.specs.Validity.{alone_at}
 use Rattle.cells.specs.Waits.{ticket_at}
 use lib.Dec.{eqb}
-use Rattle.cells.proofs.Fold.{fold_none, fold_more}
 use Rattle.cells.specs.Fold.{all_below}
-use mathlib.Core.Bool.{Bool, true, not, ◌&&◌}
-use mathlib.Core.List.{List}
-use mathlib.Core.Path.{◌≡◌, refl, sym}
-use Prim.Native.Nat.{ℕ, ◌≤◌, ◌-◌}
-use native.Mathlib.Omega.{arith}
-use borrow.Author.Rules.{rules}
+use mathlib.Core.Bool.{not}
+use mathlib.Core.Path.{◌≡◌}
+use Prim.Native.Nat.{◌≤◌, ◌-◌}
 use Rattle.validity.proofs.alone.Given as goal
 
 abbrev pub invariant-loop-q : goal.invariant-loop-q

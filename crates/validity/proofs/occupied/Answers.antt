@@ -1,7 +1,5 @@
 use Rattle.kinds.specs.Values.{cells_of}
 use Rattle.validity.proofs.Laws.{occupied_is}
-use native.Mathlib.Omega.{arith}
-use borrow.Author.Rules.{rules}
 use Rattle.validity.proofs.occupied.Goals as goal
 
 pub returns : goal.returns

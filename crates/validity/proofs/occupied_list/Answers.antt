@@ -1,11 +1,8 @@
 use Rattle.cells.specs.Validity.{occupied_at, occupied_list}
 use lib.ListN.{length, get_or}
 use Rattle.cells.proofs.Fold.{fold_none, fold_more}
-use Rattle.cells.specs.Fold.{all_below}
-use mathlib.Core.Bool.{Bool, true, not, ◌&&◌}
-use mathlib.Core.List.{List}
-use mathlib.Core.Path.{◌≡◌, refl, sym}
-use Prim.Native.Nat.{ℕ, ◌≤◌, ◌-◌}
+use mathlib.Core.Bool.{Bool, true, ◌&&◌}
+use mathlib.Core.Path.{◌≡◌}
 use native.Mathlib.Omega.{arith}
 use borrow.Author.Rules.{rules}
 use Rattle.validity.proofs.occupied_list.Goals as goal

@@ -1,13 +1,8 @@
-use Rattle.cells.specs.Validity.{occupied_at, occupied_list}
+use Rattle.cells.specs.Validity.{occupied_at}
 use lib.ListN.{length, get_or}
-use Rattle.cells.proofs.Fold.{fold_none, fold_more}
 use Rattle.cells.specs.Fold.{all_below}
-use mathlib.Core.Bool.{Bool, true, not, ◌&&◌}
-use mathlib.Core.List.{List}
-use mathlib.Core.Path.{◌≡◌, refl, sym}
-use Prim.Native.Nat.{ℕ, ◌≤◌, ◌-◌}
-use native.Mathlib.Omega.{arith}
-use borrow.Author.Rules.{rules}
+use mathlib.Core.Path.{◌≡◌}
+use Prim.Native.Nat.{◌≤◌, ◌-◌}
 use Rattle.validity.proofs.occupied_list.Given as goal
 
 abbrev pub invariant-loop-i : goal.invariant-loop-i

@@ -1,10 +1,8 @@
-use Rattle.refine.proofs.Shapes.{once_at, seen_names, seen_alert, seen_more, once_all, once_empty, once_again, once_more}
+use Rattle.refine.proofs.Shapes.{once_at, seen_alert, seen_more, once_all, once_empty, once_again, once_more}
 use lib.ListN.{length}
 use Rattle.cells.proofs.Fold.{fold_none}
-use Rattle.cells.specs.Fold.{all_below}
 use mathlib.Core.Bool.{Bool, true, ◌&&◌, not}
 use mathlib.Core.Path.{◌≡◌, sym, ap}
-use Prim.Native.Nat.{◌≤◌, ◌-◌}
 use native.Mathlib.Omega.{arith}
 use borrow.Author.Rules.{rules}
 use Rattle.validity.proofs.occupied_once.Goals as goal

@@ -1,12 +1,9 @@
-use Rattle.refine.proofs.Shapes.{once_at, seen_names, seen_alert, seen_more, once_all, once_empty, once_again, once_more}
+use Rattle.refine.proofs.Shapes.{once_at, seen_names}
 use lib.ListN.{length}
-use Rattle.cells.proofs.Fold.{fold_none}
 use Rattle.cells.specs.Fold.{all_below}
-use mathlib.Core.Bool.{Bool, true, ◌&&◌}
-use mathlib.Core.Path.{◌≡◌, sym}
+use mathlib.Core.Bool.{true}
+use mathlib.Core.Path.{◌≡◌}
 use Prim.Native.Nat.{◌≤◌, ◌-◌}
-use native.Mathlib.Omega.{arith}
-use borrow.Author.Rules.{rules}
 use Rattle.validity.proofs.occupied_once.Given as goal
 
 abbrev pub invariant-loop-i : goal.invariant-loop-i

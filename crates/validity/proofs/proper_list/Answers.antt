@@ -1,6 +1,4 @@
 use Rattle.validity.proofs.Laws.{proper_any, proper_none, proper_all}
-use native.Mathlib.Omega.{arith}
-use borrow.Author.Rules.{rules}
 use Rattle.validity.proofs.proper_list.Goals as goal
 
 pub returns-then-mode-eq0 : goal.returns-then-mode-eq0

@@ -1,6 +1,4 @@
 use Rattle.validity.proofs.Laws.{whole_short, whole_valid}
-use native.Mathlib.Omega.{arith}
-use borrow.Author.Rules.{rules}
 use Rattle.validity.proofs.valid.Goals as goal
 
 pub returns-then-t-ne-TABLE_LENGTH : goal.returns-then-t-ne-TABLE_LENGTH

@@ -1,6 +1,4 @@
 use Rattle.validity.proofs.Laws.{names_valid}
-use native.Mathlib.Omega.{arith}
-use borrow.Author.Rules.{rules}
 use Rattle.validity.proofs.valid_names.Goals as goal
 
 pub returns : goal.returns

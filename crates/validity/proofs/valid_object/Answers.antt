@@ -1,7 +1,5 @@
 use Rattle.kinds.specs.Values.{cells_of}
 use Rattle.validity.proofs.Laws.{empty_valid, semaphore_valid, mutex_valid, event_valid, no_kind}
-use native.Mathlib.Omega.{arith}
-use borrow.Author.Rules.{rules}
 use Rattle.validity.proofs.valid_object.Goals as goal
 
 pub returns-then-kind-eq0 : goal.returns-then-kind-eq0

@@ -1,7 +1,5 @@
 use mathlib.Core.Path.{◌∙◌}
 use Rattle.validity.proofs.Laws.{place_free, place_valid}
-use native.Mathlib.Omega.{arith}
-use borrow.Author.Rules.{rules}
 use Rattle.validity.proofs.valid_place.Goals as goal
 
 pub returns-then-ticket-eq0 : goal.returns-then-ticket-eq0

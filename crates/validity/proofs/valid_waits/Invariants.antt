@@ -1,13 +1,8 @@
 use Rattle.cells.specs.Validity.{valid_place}
 use Rattle.model.specs.Sizes.{wait_places}
-use Rattle.cells.proofs.Fold.{fold_none, fold_more}
 use Rattle.cells.specs.Fold.{all_below}
-use mathlib.Core.Bool.{Bool, true, not, ◌&&◌}
-use mathlib.Core.List.{List}
-use mathlib.Core.Path.{◌≡◌, refl, sym}
-use Prim.Native.Nat.{ℕ, ◌≤◌, ◌-◌}
-use native.Mathlib.Omega.{arith}
-use borrow.Author.Rules.{rules}
+use mathlib.Core.Path.{◌≡◌}
+use Prim.Native.Nat.{◌≤◌, ◌-◌}
 use Rattle.validity.proofs.valid_waits.Given as goal
 
 abbrev pub invariant-loop-p : goal.invariant-loop-p

@@ -1,10 +1,5 @@
-use Rattle.attempt.specs.Values.{tried_by}
-use mathlib.Core.Path.{◌≡◌, refl, sym, ◌∙◌}
-use mathlib.Core.List.{List, []}
 use Rattle.model.specs.Calls.{nothing_lent}
 use Rattle.waits.proofs.Laws.{act_served, act_later}
-use native.Mathlib.Omega.{arith}
-use borrow.Author.Rules.{rules}
 use Rattle.waits.proofs.act.Goals as goal
 
 pub returns-then-served : goal.returns-then-served

@@ -1,6 +1,4 @@
 use Rattle.waits.proofs.Laws.{bad_is}
-use native.Mathlib.Omega.{arith}
-use borrow.Author.Rules.{rules}
 use Rattle.waits.proofs.bad_wait.Goals as goal
 
 pub returns : goal.returns

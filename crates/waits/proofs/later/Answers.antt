@@ -1,9 +1,7 @@
-use mathlib.Core.Path.{◌≡◌, refl, sym, ◌∙◌}
-use mathlib.Core.List.{List, []}
+use mathlib.Core.Path.{sym}
 use Rattle.model.specs.Calls.{nothing_lent}
 use Rattle.waits.proofs.Laws.{later_up, later_full, later_spent, later_queued}
 use native.Mathlib.Omega.{arith}
-use borrow.Author.Rules.{rules}
 use Rattle.waits.proofs.later.Goals as goal
 
 pub returns-then-up : goal.returns-then-up

@@ -1,10 +1,8 @@
 use mathlib.Core.Path.{sym, ap}
 use lib.ListN.{length}
-use mathlib.Core.List.{List, []}
 use Rattle.model.specs.Calls.{nothing_lent}
 use Rattle.waits.proofs.Laws.{wait_long, wait_bad, wait_acts}
 use native.Mathlib.Omega.{arith}
-use borrow.Author.Rules.{rules}
 use Rattle.waits.proofs.wait.Goals as goal
 
 pub returns-then-n-gt-MAX_LISTED : goal.returns-then-n-gt-MAX_LISTED

@@ -1,9 +1,7 @@
 use Rattle.tables.proofs.Laws.{copied}
-use Rattle.model.specs.Sizes.{max_listed}
 use lib.Seq.{take-length}
-use lib.ListN.{length, take, length-set}
-use mathlib.Core.Path.{◌≡◌, refl, sym, ◌∙◌}
-use Prim.Native.Nat.{ℕ, ◌≤◌, ◌-◌}
+use lib.ListN.{length, length-set}
+use mathlib.Core.Path.{◌≡◌, refl, ◌∙◌}
 use native.Mathlib.Omega.{arith}
 use borrow.Author.Rules.{rules}
 use Rattle.waits.proofs.widen.Goals as goal

@@ -1,11 +1,7 @@
-use Rattle.tables.proofs.Laws.{copied}
 use Rattle.model.specs.Sizes.{max_listed}
-use lib.Seq.{take-length}
-use lib.ListN.{length, take, length-set}
-use mathlib.Core.Path.{◌≡◌, refl, sym, ◌∙◌}
-use Prim.Native.Nat.{ℕ, ◌≤◌, ◌-◌}
-use native.Mathlib.Omega.{arith}
-use borrow.Author.Rules.{rules}
+use lib.ListN.{length, take}
+use mathlib.Core.Path.{◌≡◌}
+use Prim.Native.Nat.{◌≤◌, ◌-◌}
 use Rattle.waits.proofs.widen.Given as goal
 
 abbrev pub invariant-loop-i : goal.invariant-loop-i

@@ -1,6 +1,4 @@
 use Rattle.walk.proofs.Laws.{alerted_at}
-use native.Mathlib.Omega.{arith}
-use borrow.Author.Rules.{rules}
 use Rattle.walk.proofs.alert_of.Goals as goal
 
 pub returns : goal.returns

@@ -3,7 +3,6 @@ use Rattle.tables.proofs.Laws.{count_le}
 use lib.Seq.{length-take-le}
 use mathlib.Core.Path.{sym}
 use native.Mathlib.Omega.{arith}
-use borrow.Author.Rules.{rules}
 use Rattle.walk.proofs.all_at.Goals as goal
 
 pub slice_bounds-list-end : goal.slice_bounds-list-end

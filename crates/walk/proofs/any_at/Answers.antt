@@ -1,6 +1,4 @@
 use Rattle.walk.proofs.Laws.{any_alerted, any_taken}
-use native.Mathlib.Omega.{arith}
-use borrow.Author.Rules.{rules}
 use Rattle.walk.proofs.any_at.Goals as goal
 
 pub returns-then-n-i : goal.returns-then-n-i

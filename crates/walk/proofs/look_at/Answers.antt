@@ -1,6 +1,4 @@
 use Rattle.walk.proofs.Laws.{looked_at}
-use native.Mathlib.Omega.{arith}
-use borrow.Author.Rules.{rules}
 use Rattle.walk.proofs.look_at.Goals as goal
 
 pub returns : goal.returns

@@ -1,6 +1,4 @@
 use Rattle.walk.proofs.Laws.{settle_by}
-use native.Mathlib.Omega.{arith}
-use borrow.Author.Rules.{rules}
 use Rattle.walk.proofs.serve.Goals as goal
 
 pub returns : goal.returns

@@ -1,7 +1,5 @@
 use Rattle.walk.proofs.Laws.{settled_not, settled_left}
 use Rattle.attempt.specs.Values.{tried_by}
-use native.Mathlib.Omega.{arith}
-use borrow.Author.Rules.{rules}
 use Rattle.walk.proofs.settle.Goals as goal
 
 pub returns-then-not-a : goal.returns-then-not-a

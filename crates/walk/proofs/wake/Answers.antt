@@ -1,16 +1,14 @@
-use Rattle.walk.proofs.Laws.{Names, settle_count, walk_end, walk_none, walk_passed, walk_any, walk_alert, walk_all, look_on, look_fails, look_ends, listed_in}
+use Rattle.walk.proofs.Laws.{settle_count, walk_end, walk_none, walk_passed, walk_any, walk_alert, walk_all, look_on, look_fails, look_ends, listed_in}
 use Rattle.refine.proofs.Validity.{list_length}
-use Rattle.attempt.proofs.Laws.{SignaledIn, all_start}
-use Rattle.cells.specs.Walk.{walked, walk_cells, wake_cells}
+use Rattle.attempt.proofs.Laws.{all_start}
+use Rattle.cells.specs.Walk.{wake_cells}
 use Rattle.cells.specs.Attempt.{any_at, alert_of, all_at}
-use Rattle.cells.specs.Waits.{owner_at, count_at, list_of}
-use Rattle.cells.specs.Fold.{all_below}
-use Rattle.model.specs.Sizes.{wait_places}
+use Rattle.cells.specs.Waits.{owner_at, list_of}
 use Rattle.model.specs.Layout.{table_length}
-use mathlib.Core.Path.{◌≡◌, refl, sym, ◌∙◌, ap}
-use mathlib.Core.Bool.{true, not}
+use mathlib.Core.Path.{◌≡◌, refl, ◌∙◌, ap}
+use mathlib.Core.Bool.{not}
 use lib.ListN.{length}
-use Prim.Native.Nat.{ℕ, ◌≤◌, ◌<◌, ◌-◌}
+use Prim.Native.Nat.{ℕ}
 use native.Mathlib.Omega.{arith}
 use borrow.Author.Rules.{rules}
 use Rattle.walk.proofs.wake.Goals as goal

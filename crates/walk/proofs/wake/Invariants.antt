@@ -1,18 +1,13 @@
-use Rattle.walk.proofs.Laws.{Names, settle_count, walk_end, walk_none, walk_passed, walk_any, walk_alert, walk_all, look_on, look_fails, look_ends, listed_in}
-use Rattle.refine.proofs.Validity.{list_length}
-use Rattle.attempt.proofs.Laws.{SignaledIn, all_start}
+use Rattle.walk.proofs.Laws.{Names}
+use Rattle.attempt.proofs.Laws.{SignaledIn}
 use Rattle.cells.specs.Walk.{walked, walk_cells, wake_cells}
-use Rattle.cells.specs.Attempt.{any_at, alert_of, all_at}
-use Rattle.cells.specs.Waits.{owner_at, count_at, list_of}
+use Rattle.cells.specs.Waits.{owner_at, list_of}
 use Rattle.cells.specs.Fold.{all_below}
 use Rattle.model.specs.Sizes.{wait_places}
-use Rattle.model.specs.Layout.{table_length}
-use mathlib.Core.Path.{◌≡◌, refl, sym, ◌∙◌}
+use mathlib.Core.Path.{◌≡◌}
 use mathlib.Core.Bool.{true}
 use lib.ListN.{length}
-use Prim.Native.Nat.{ℕ, ◌≤◌, ◌<◌, ◌-◌}
-use native.Mathlib.Omega.{arith}
-use borrow.Author.Rules.{rules}
+use Prim.Native.Nat.{◌≤◌, ◌-◌}
 use Rattle.walk.proofs.wake.Given as goal
 
 abbrev pub invariant-loop-i : goal.invariant-loop-i

@@ -1,8 +1,5 @@
 -- `call_lines::woken::is_untouched` meets its contract: the search of `Laws`, at the number 777.
-use Prim.Native.Nat.{◌-◌}
-use lib.ListN.{length}
-use borrow.Author.Rules.{rules}
-use Rattle.call_lines.proofs.Laws.{Passed, passed_none, passed_more, all_kept, one_altered}
+use Rattle.call_lines.proofs.Laws.{passed_none, passed_more, all_kept, one_altered}
 use Rattle.call_lines.proofs.woken.is_untouched.Goals as goal
 
 pub loop-i-init : goal.loop-i-init

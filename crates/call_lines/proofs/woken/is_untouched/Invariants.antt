@@ -1,7 +1,6 @@
 use Prim.Native.Nat.{◌-◌}
 use lib.ListN.{length}
-use borrow.Author.Rules.{rules}
-use Rattle.call_lines.proofs.Laws.{Passed, passed_none, passed_more, all_kept, one_altered}
+use Rattle.call_lines.proofs.Laws.{Passed}
 use Rattle.call_lines.proofs.woken.is_untouched.Given as goal
 
 abbrev pub invariant-loop-i : goal.invariant-loop-i

@@ -1,8 +1,5 @@
 -- `cases_objects::snapshots::is_kept` meets its contract: the search of `Laws`, at the sentinel 35.
-use Prim.Native.Nat.{◌-◌}
-use lib.ListN.{length}
-use borrow.Author.Rules.{rules}
-use Rattle.call_lines.proofs.Laws.{Passed, passed_none, passed_more, all_kept, one_altered}
+use Rattle.call_lines.proofs.Laws.{passed_none, passed_more, all_kept, one_altered}
 use Rattle.cases_objects.proofs.snapshots.is_kept.Goals as goal
 
 pub loop-i-init : goal.loop-i-init

@@ -1,8 +1,6 @@
-use mathlib.Core.Path.{◌∙◌}
 use Rattle.model.specs.Calls.{an_event}
 use Rattle.kinds.proofs.Laws.{created}
 use native.Mathlib.Omega.{arith}
-use borrow.Author.Rules.{rules}
 use Rattle.kinds.proofs.Event.create.Goals as goal
 
 pub returns : goal.returns

@@ -1,7 +1,6 @@
 use Rattle.model.specs.Calls.{a_mutex}
 use Rattle.kinds.proofs.Laws.{created}
 use native.Mathlib.Omega.{arith}
-use borrow.Author.Rules.{rules}
 use Rattle.kinds.proofs.Mutex.create.Goals as goal
 
 pub returns : goal.returns

@@ -4,7 +4,6 @@ use Rattle.kinds.specs.Values.{cells_of}
 use Rattle.cells.specs.Objects.{acquired_fields}
 use borrow.Author.Tests.{le-ltb, ne_eqb}
 use Rattle.model.specs.Sizes.{mutex_ceiling}
-use borrow.Author.Rules.{rules}
 use Rattle.kinds.proofs.Object.acquired.Goals as goal
 
 pub returns-then-count-eq0 : goal.returns-then-count-eq0

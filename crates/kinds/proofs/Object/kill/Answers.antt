@@ -1,7 +1,6 @@
 use Rattle.kinds.specs.Values.{cells_of}
 use Rattle.kinds.proofs.Laws.{held_refused, held_done}
 use Rattle.cells.specs.Objects.{kill_fields}
-use borrow.Author.Rules.{rules}
 use Rattle.kinds.proofs.Object.kill.Goals as goal
 
 pub returns-then-answer-ne-DONE : goal.returns-then-answer-ne-DONE

@@ -2,7 +2,6 @@ use mathlib.Core.Path.{refl}
 use Rattle.kinds.proofs.Laws.{post_low, post_over, post_done}
 use Rattle.cells.specs.Objects.{post_fields}
 use borrow.Author.Tests.{ne_eqb}
-use borrow.Author.Rules.{rules}
 use Rattle.kinds.proofs.Object.post.Goals as goal
 
 pub returns-then-kind-ne-KIND : goal.returns-then-kind-ne-KIND

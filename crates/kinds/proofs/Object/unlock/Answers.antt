@@ -1,7 +1,6 @@
 use Rattle.kinds.specs.Values.{cells_of}
 use Rattle.kinds.proofs.Laws.{held_refused, unlock_last, unlock_more}
 use Rattle.cells.specs.Objects.{unlock_fields}
-use borrow.Author.Rules.{rules}
 use Rattle.kinds.proofs.Object.unlock.Goals as goal
 
 pub returns-then-answer-ne-DONE : goal.returns-then-answer-ne-DONE

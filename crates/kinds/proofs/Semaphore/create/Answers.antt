@@ -1,7 +1,6 @@
 use Rattle.model.specs.Calls.{a_semaphore}
 use Rattle.kinds.proofs.Laws.{created}
 use native.Mathlib.Omega.{arith}
-use borrow.Author.Rules.{rules}
 use Rattle.kinds.proofs.Semaphore.create.Goals as goal
 
 pub returns : goal.returns
