@@ -104,7 +104,13 @@ def in_edit(text, new):
 
 
 def in_prose(text, new):
-    return re.sub(r"`[^`\n]+`", lambda m: respell(m.group(0), new), text)
+    """A document: what port.py respelled in the sources is followed here too."""
+
+    def word(m):
+        w = new.get(m.group(0), m.group(0))
+        return snake(w) if not w[0].isupper() and re.search(r"[A-Z-]", w) and snake(w) in HERE else w
+
+    return re.sub(r"`[^`\n]+`", lambda m: TOKEN.sub(word, m.group(0)), text)
 
 
 def edit(path, how):
@@ -130,6 +136,9 @@ def files():
         for p in glob.glob(pattern, recursive=True):
             if os.path.basename(p) not in ("PORT.md", "DECISIONS-OLD.md"):
                 yield p, in_prose
+
+
+HERE = set()
 
 
 def kit_names(text):
@@ -165,6 +174,7 @@ def main(argv):
         here = {k: v for k, v in LEMMAS.items() if not done and (p.startswith("crates/refine/") or any(re.search(r"\b" + k + r"\b", c) for c in cited))}
         if here:
             edit(p, lambda t: in_walk(t, here) if "/proofs/" in p and p.count("/") > 3 else respell(t, here))
+    HERE.update(names, new.values())
     changed = 0
     for path, how in files():
         with open(path, encoding="utf-8") as f:
