@@ -9,7 +9,7 @@
 # looked up too; in files that follow only=paths nothing else is.
 BEGIN {
     # not names of ours: placeholders, variables, words of the languages, of the tools and of the driver
-    split("Record.field key=value requires ensures self extern u32 cs memcpy memset rt nm make target/ Fits libntsync.a" \
+    split("Record.field key=value requires ensures self extern u32 cs memcpy memset rt nm make Fits libntsync.a" \
         " NTSYNC_ABI=FILE NTSYNC_MAX_WAIT_COUNT NTSYNC_WAIT_REALTIME U64_MAX", word, " ")
     for (i in word) known[word[i]] = 1
 }

@@ -34,8 +34,8 @@
  *     ntsync_unlock 1,272, ntsync_kill_owner 1,272, ntsync_set 1,272, ntsync_reset 1,192, ntsync_pulse 1,288,
  *     ntsync_wait_any 2,888, ntsync_wait_all 2,888, ntsync_expire 1,240, ntsync_cancel 1,192, ntsync_snapshot 1,256,
  *     ntsync_restore 36,536 (it reads the text into cells of its own, and alters the tables only when all of it is accepted).
- *   Time, in instructions at worst of the scenarios of docs/BENCH.md: the check of all cells 47,081; a call with its check
- *   172,621 (a post that wakes 32 waits for all of 64 objects), the snapshot of full tables 257,466, its restoring 842,793.
+ *   Time, in instructions at worst of the scenarios of docs/BENCH.md: the check of all cells 47,765; a call with its check
+ *   173,399 (a post that wakes 32 waits for all of 64 objects), the snapshot of full tables 258,092, its restoring 561,655.
  *
  * Saving. What must outlive a power cut is saved as a snapshot, which ntsync_restore reads back; docs/howto/saving.md has the
  * program. The sum in its last line shows every cut and every single changed byte, but not two exchanged digits: against more
