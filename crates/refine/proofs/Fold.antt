@@ -1,14 +1,14 @@
 -- What loops over indices compute, in terms of lists.
 use mathlib.Core.Path.{◌≡◌, refl, ap, sym, ◌∙◌}
 use mathlib.Core.Bool.{Bool, true, false, not, ◌&&◌, ◌||◌, cond, and-true, or-false, and_assoc, or_assoc}
-use mathlib.Core.List.{List, [], ◌∷◌}
+use mathlib.Core.List.{List, [], ◌∷◌, append-nil}
 use mathlib.Core.Option.{none, some}
 use mathlib.Core.Logic.{⊎_elim}
 use Prim.Native.Nat.{ℕ, zero, suc, ◌+◌, ◌≤◌, ◌<◌}
 use native.Mathlib.Omega.{arith}
-use native.Mathlib.Nat.{add-zero, le_refl, suc-add, add-suc, eq-or-lt_of_le, le_of_suc-le-suc}
-use lib.ListN.{length, get_or, set, replicate}
-use lib.Seq.{sets}
+use native.Mathlib.Nat.{zero-add, add-zero, le_refl, suc-add, add-suc, eq-or-lt_of_le, le_of_suc-le-suc}
+use lib.ListN.{length, get_or, set, replicate, length-replicate}
+use lib.Seq.{sets, sets-eq, drop-length}
 use lib.Dec.{eqb, ltb}
 use borrow.Author.Tests.{eqb-true, eqb-false, lt-ltb, le-ltb, eq-eqb}
 use Rattle.model.specs.Basics.{member, has_repeat, tabulate}
@@ -70,7 +70,7 @@ unfolding all_occupied fold_below
 all_occupied_is os [] f e = refl
 all_occupied_is os (h ∷ hs) f e = all_first f (length hs) ∙ rw (e 0, all_occupied_is os hs (λ i. f (suc i)) (λ k. e (suc k)))
 
-eqb_flip : (a b : ℕ) → eqb a b ≡ eqb b a
+pub eqb_flip : (a b : ℕ) → eqb a b ≡ eqb b a
 eqb_flip a b = same_tests (eqb a b) (eqb b a) (λ e. eq-eqb b a (sym (eqb-true a b e))) (λ e. eq-eqb a b (sym (eqb-true b a e)))
 
 pub has_is : (hs : List ℕ) (h : ℕ) → has hs h ≡ member h hs
@@ -153,3 +153,11 @@ tabulate_zeros (suc n) = ap (λ (l : List ℕ). 0 ∷ l) (tabulate_zeros n)
 
 pub fold_clears : (t : List ℕ) (b n : ℕ) → fold_below (λ u i. set u (b + i) 0) t n ≡ sets t b (replicate n 0)
 fold_clears t b n = fold_stores t b n (λ i. 0) ∙ ap (sets t b) (tabulate_zeros n)
+
+-- a list of zeros, put one by one
+pub zeros : (n : ℕ) (t : List ℕ) → length t ≡ n → fold_below (λ u i. set u i 0) t n ≡ replicate n 0
+zeros n t e =
+    let Z : List ℕ = replicate n 0 in let z : length Z ≡ n = length-replicate {A = ℕ} n 0 in
+    let d : 0 + length Z ≡ length t = zero-add _ ∙ z ∙ sym e in
+    ap (λ (f : List ℕ → ℕ → List ℕ). fold_below f t n) (λ j. λ u i. set u (sym (zero-add i) j) 0) ∙ fold_clears t 0 n
+    ∙ sets-eq Z t 0 (omega arith) ∙ rw (d, drop-length t) (append-nil Z)

@@ -1,12 +1,10 @@
 -- The law that every public contract cites: on any 64-bit cells each call by cells is the library's step of the meaning.
 use mathlib.Core.Path.{◌≡◌, ap, sym, ◌∙◌}
 use mathlib.Core.Bool.{true}
-use mathlib.Core.List.{List, append-nil}
+use mathlib.Core.List.{List}
 use Prim.Native.Nat.{ℕ, ◌+◌, ◌≤◌}
 use native.Mathlib.Omega.{arith}
-use native.Mathlib.Nat.{zero-add}
-use lib.ListN.{length, set, replicate, length-replicate}
-use lib.Seq.{sets-eq, drop-length}
+use lib.ListN.{length}
 use lib.Dec.{eqb}
 use borrow.Author.Tests.{eqb-true}
 use Rattle.model.specs.Calls.{Operation, create, close, reset_event, read, signal, wait, expire, cancel, snapshot, Lent, Call}
@@ -18,9 +16,8 @@ use Rattle.model.proofs.Validity.{tables_valid}
 use Rattle.model.proofs.Tables.{initial_tables}
 use Rattle.model.proofs.Valid.{Valid}
 use Rattle.cells.specs.Calls.{on_cells, call_cells, made_cells, make_cells}
-use Rattle.cells.specs.Fold.{fold_below}
 use Rattle.refine.proofs.Calls.{told, means, create_is, close_is, read_is, reset_is, signal_is, expire_is, cancel_is, snapshot_is}
-use Rattle.refine.proofs.Fold.{fold_clears}
+use Rattle.refine.proofs.Fold.{zeros}
 use Rattle.refine.proofs.Validity.{Words, valid_cells_lem}
 use Rattle.refine.proofs.Wait.{wait_is}
 use Rattle.refine.proofs.Snapshot.{snapshot_of_lem}
@@ -50,13 +47,6 @@ call_means c t words = rw (valid_cells_lem t words) (by_bool (valid_tables t)
     (λ n. rw n))
 
 -- MAKING
-zeros : (n : ℕ) (t : List ℕ) → length t ≡ n → fold_below (λ u i. set u i 0) t n ≡ replicate n 0
-zeros n t e =
-    let Z : List ℕ = replicate n 0 in let z : length Z ≡ n = length-replicate {A = ℕ} n 0 in
-    let d : 0 + length Z ≡ length t = zero-add _ ∙ z ∙ sym e in
-    ap (λ (f : List ℕ → ℕ → List ℕ). fold_below f t n) (λ j. λ u i. set u (sym (zero-add i) j) 0) ∙ fold_clears t 0 n
-    ∙ sets-eq Z t 0 (omega arith) ∙ rw (d, drop-length t) (append-nil Z)
-
 pub make_means : (t : List ℕ) → make_cells t ≡ told (make_tables t)
 unfolding make_cells made_cells make_tables
 make_means t = by_bool (eqb (length t) table_length) (λ y. rw (y, zeros table_length t (eqb-true _ _ y), initial_tables)) (λ n. rw n)

@@ -2,14 +2,20 @@
 use Prim.Native.Nat.{ℕ, ◌+◌, ◌-◌, ◌≤◌, ◌<◌}
 use mathlib.Core.Path.{◌≡◌, refl, ap, sym, ◌∙◌}
 use mathlib.Core.Bool.{Bool, true, false, ◌||◌, cond}
-use mathlib.Core.List.{List}
+use mathlib.Core.List.{List, [], ◌∷◌}
 use native.Mathlib.Omega.{arith}
-use lib.ListN.{length, get_or, set, take, drop}
-use lib.Seq.{take-suc, take-suc-set, take-length}
+use lib.ListN.{length, get_or, set, take, drop, replicate, length-replicate}
+use lib.Seq.{take-suc, take-suc-set, take-length, sets-eq}
+use Rattle.std.proofs.Common.{◌++◌, length-append, length-drop, append_assoc}
+use Rattle.std.proofs.lemmas.List.{take_at}
+use borrow.Rule.Slice.PartMut.{put_mid, Post-is}
 use lib.Dec.{eqb, ltb, leb}
 use native.Mathlib.Numerals.{add-one}
 use borrow.Author.Tests.{lt-ltb, le-ltb, le-leb, lt-leb, eq-eqb, ne_eqb, eqb-false, ltb-true, ltb-false, leb-true}
 use Rattle.model.proofs.Logic.{by_bool, clash, and_split}
+use Rattle.std.specs.List.{list_any}
+use Rattle.model.specs.Basics.{member}
+use Rattle.refine.proofs.Fold.{eqb_flip, fold_clears}
 use Rattle.model.specs.Sizes.{object_places, wait_places, max_listed}
 use Rattle.model.specs.Layout.{header_size, wait_size, table_length, in_wait}
 use Rattle.cells.specs.Objects.{Fields, fields, no_fields, object_cell, fields_at, put_fields, is_handle, named, store}
@@ -126,3 +132,26 @@ listed_is t p i l h b e = e ∙ sym (list_at t l p h i b)
 pub copy_is : (t : List ℕ) (p i : ℕ) (copy : List ℕ) {list : List ℕ} → length t ≡ table_length → p < wait_places → list ≡ list_of t p → i ≡ length list → take i copy ≡ take i list → take (count_at t p) copy ≡ list_of t p
 copy_is t p i copy {list} l h e z c = let n : count_at t p ≡ i = sym (list_length t l p h) ∙ ap length (sym e) ∙ sym z in
     rw n (c ∙ ap (λ (k : ℕ). take k list) z ∙ take-length list ∙ e)
+
+-- a list's own test, in the words of the meaning
+pub any_member : (list : List ℕ) (h : ℕ) → list_any (λ k. eqb k h) list ≡ member h list
+unfolding member
+any_member [] h = refl
+any_member (k ∷ list) h = rw (any_member list h, eqb_flip k h)
+
+-- zeros put at once, and one by one
+pub filled : (t : List ℕ) (a n : ℕ) (zs : List ℕ) → a + n ≤ length t → zs ≡ replicate n 0 → put_mid a ((a + n) - a) t zs ≡ fold_below (λ u i. set u (a + i) 0) t n
+filled t a n zs l e = let z : length (replicate {A = ℕ} n 0) ≡ n = length-replicate n 0 in
+    let m : a + length (replicate {A = ℕ} n 0) ≤ length t = rw z l in
+    let k : take a t ++ (replicate n 0 ++ drop (a + n) t) ≡ fold_below (λ u i. set u (a + i) 0) t n = sym (fold_clears t a n ∙ sets-eq (replicate n 0) t a m ∙ rw z (append_assoc (take a t) (replicate n 0) (drop (a + n) t))) in
+    rw (Post-is a (a + n) t (omega arith), e) k
+
+-- a list put at the front of an array
+pub front_length : (list new rest : List ℕ) → new ≡ list → length list ≤ length rest → length (new ++ drop (length list) rest) ≡ length rest
+front_length list new rest e l = rw (e, length-append, length-drop) (omega arith)
+
+pub front_taken : (list new rest : List ℕ) (n : ℕ) → new ≡ list → n ≡ length list → take n (new ++ drop (length list) rest) ≡ list
+front_taken list new rest n e q = rw (e, q) (take_at list (drop (length list) rest) _ refl)
+
+pub list_short : (t : List ℕ) (p : ℕ) {list : List ℕ} → length t ≡ table_length → p < wait_places → list ≡ list_of t p → length list ≤ max_listed
+list_short t p l h e = omega (arith, ap length e ∙ list_length t l p h, count_le t p)

@@ -3,13 +3,14 @@
 
 ghost use Rattle.std.specs.Prelude.{◌≡◌, ◌+◌, ◌≤◌, ◌<◌, length, get_or, take};
 ghost use Rattle.model.specs.Sizes.{object_places, wait_places, max_listed, word64};
-ghost use Rattle.model.specs.Layout.{object_size, header_size, wait_size, waits_base, table_length, in_wait};
+ghost use Rattle.model.specs.Layout.{wait_size, table_length, in_wait};
 ghost use Rattle.cells.specs.Objects.{fields_at, put_fields, is_handle, named, store};
 ghost use Rattle.cells.specs.Waits.{next_ticket, put_next, ticket_at, mode_at, owner_at, clock_at, timeout_at, count_at, alert_at, list_of, names_of, has, names_at, clear_wait};
 ghost use Rattle.cells.specs.Calls.{empty_object, ticket_place, made_cells, put_header, put_list, queue_cells};
 ghost use Rattle.cells.specs.Fold.{or_below, cell_from};
 ghost use Rattle.cells.specs.Validity.{unused_zero, valid_free};
 ghost use Rattle.kinds.specs.Values.{cells_of};
+ghost use Rattle.tables.specs.Found.{Found};
 
 use kinds::Object;
 
@@ -21,6 +22,9 @@ pub const MAX_LISTED: usize = 64;
 
 pub const TABLE_LENGTH: usize = WAITS_BASE + WAIT_SIZE * WAIT_PLACES;
 
+// The lent tables: their length is their type's.
+pub type Cells = [u64; TABLE_LENGTH];
+
 const OBJECT_SIZE: usize = 4;
 
 const HEADER_SIZE: usize = 7;
@@ -29,10 +33,33 @@ const WAIT_SIZE: usize = HEADER_SIZE + MAX_LISTED;
 
 const WAITS_BASE: usize = 1 + OBJECT_SIZE * OBJECT_PLACES;
 
+// What a wait asks for, as its cells hold it.
+#[derive(Clone, Copy)]
+pub struct Terms {
+    // 0 for any, 1 for all
+    pub mode: u64,
+    pub owner: u64,
+    // 0 monotonic, 1 real-time
+    pub clock: u64,
+    pub timeout: u64,
+    // a handle, or 0 for none
+    pub alert: u64,
+}
+
+// A wait's cells before its list.
+#[derive(Clone, Copy)]
+pub struct Header {
+    // 0 at an empty place
+    pub ticket: u64,
+    pub terms: Terms,
+    // how many handles are listed
+    pub listed: u64,
+}
+
 // ---- objects, by place and by handle
 
-pub fn object_at(t: &[u64], p: usize) -> Object
-    requires { (p < object_places) × (length t.now ≡ table_length) }
+pub fn object_at(t: &Cells, p: usize) -> Object
+    requires { p < object_places }
     ensures { cells_of result ≡ fields_at t.now p }
 {
     let at = 1 + OBJECT_SIZE * p;
@@ -44,8 +71,8 @@ pub fn object_at(t: &[u64], p: usize) -> Object
     }
 }
 
-pub fn put_object(t: &mut [u64], p: usize, o: Object)
-    requires { (p < object_places) × (length t.old ≡ table_length) }
+pub fn put_object(t: &mut Cells, p: usize, o: Object)
+    requires { p < object_places }
     ensures { t.new ≡ put_fields t.old p (cells_of o) }
 {
     let at = 1 + OBJECT_SIZE * p;
@@ -62,25 +89,18 @@ fn is_handle(h: u64) -> bool
 }
 
 // The object that a handle names; a number that is no handle names an empty place.
-pub fn named(t: &[u64], h: u64) -> Object
-    requires { length t.now ≡ table_length }
+pub fn named(t: &Cells, h: u64) -> Object
     ensures { cells_of result ≡ named t.now h }
 {
     let handle = is_handle(h);
     if handle {
         return object_at(t, (h - 1) as usize);
     }
-    Object {
-        kind: 0,
-        count: 0,
-        owner: 0,
-        attribute: 0,
-    }
+    Object::EMPTY
 }
 
 // Nothing is stored where the number is no handle.
-pub fn store(t: &mut [u64], h: u64, o: Object)
-    requires { length t.old ≡ table_length }
+pub fn store(t: &mut Cells, h: u64, o: Object)
     ensures { t.new ≡ store t.old h (cells_of o) }
 {
     let handle = is_handle(h);
@@ -89,112 +109,88 @@ pub fn store(t: &mut [u64], h: u64, o: Object)
     }
 }
 
-// The lowest empty object place; OBJECT_PLACES where there is none.
-pub fn empty_object(t: &[u64]) -> usize
-    requires { length t.now ≡ table_length }
-    ensures { result ≡ empty_object t.now }
+// The lowest empty object place.
+pub fn empty_object(t: &Cells) -> Option<usize>
+    ensures { Found result (empty_object t.now) object_places }
 {
-    let mut p: usize = 0;
-    while p < OBJECT_PLACES {
+    for p in 0..OBJECT_PLACES {
         let o = object_at(t, p);
         if o.kind == 0 {
-            return p;
+            return Some(p);
         }
-        p += 1;
     }
-    p
+    None
 }
 
 // ---- waits, by place
 
-pub fn next_ticket(t: &[u64]) -> u64
-    requires { length t.now ≡ table_length }
+pub fn next_ticket(t: &Cells) -> u64
     ensures { result ≡ next_ticket t.now }
 {
     t[0]
 }
 
-pub fn put_next(t: &mut [u64], next: u64)
-    requires { length t.old ≡ table_length }
+pub fn put_next(t: &mut Cells, next: u64)
     ensures { t.new ≡ put_next t.old next }
 {
     t[0] = next;
 }
 
 // Cell j of a wait place.
-pub fn wait_cell(t: &[u64], p: usize, j: usize) -> u64
-    requires { (p < wait_places) × ((j < wait_size) × (length t.now ≡ table_length)) }
+pub fn wait_cell(t: &Cells, p: usize, j: usize) -> u64
+    requires { (p < wait_places) × (j < wait_size) }
     ensures { result ≡ in_wait t.now p j }
 {
     let at = WAITS_BASE + WAIT_SIZE * p + j;
     t[at]
 }
 
-pub fn ticket_at(t: &[u64], p: usize) -> u64
-    requires { (p < wait_places) × (length t.now ≡ table_length) }
+pub fn ticket_at(t: &Cells, p: usize) -> u64
+    requires { p < wait_places }
     ensures { result ≡ ticket_at t.now p }
 {
     wait_cell(t, p, 0)
 }
 
-pub fn mode_at(t: &[u64], p: usize) -> u64
-    requires { (p < wait_places) × (length t.now ≡ table_length) }
-    ensures { result ≡ mode_at t.now p }
+pub fn header_at(t: &Cells, p: usize) -> Header
+    requires { p < wait_places }
+    ensures ticket { result.ticket ≡ ticket_at t.now p }
+    ensures mode { result.terms.mode ≡ mode_at t.now p }
+    ensures owner { result.terms.owner ≡ owner_at t.now p }
+    ensures clock { result.terms.clock ≡ clock_at t.now p }
+    ensures timeout { result.terms.timeout ≡ timeout_at t.now p }
+    ensures listed { result.listed ≡ in_wait t.now p 5 }
+    ensures alert { result.terms.alert ≡ alert_at t.now p }
 {
-    wait_cell(t, p, 1)
-}
-
-pub fn owner_at(t: &[u64], p: usize) -> u64
-    requires { (p < wait_places) × (length t.now ≡ table_length) }
-    ensures { result ≡ owner_at t.now p }
-{
-    wait_cell(t, p, 2)
-}
-
-pub fn clock_at(t: &[u64], p: usize) -> u64
-    requires { (p < wait_places) × (length t.now ≡ table_length) }
-    ensures { result ≡ clock_at t.now p }
-{
-    wait_cell(t, p, 3)
-}
-
-pub fn timeout_at(t: &[u64], p: usize) -> u64
-    requires { (p < wait_places) × (length t.now ≡ table_length) }
-    ensures { result ≡ timeout_at t.now p }
-{
-    wait_cell(t, p, 4)
-}
-
-// The number of listed handles, as the cell has it.
-pub fn listed_at(t: &[u64], p: usize) -> u64
-    requires { (p < wait_places) × (length t.now ≡ table_length) }
-    ensures { result ≡ in_wait t.now p 5 }
-{
-    wait_cell(t, p, 5)
+    let at = WAITS_BASE + WAIT_SIZE * p;
+    Header {
+        ticket: t[at],
+        terms: Terms {
+            mode: t[at + 1],
+            owner: t[at + 2],
+            clock: t[at + 3],
+            timeout: t[at + 4],
+            alert: t[at + 6],
+        },
+        listed: t[at + 5],
+    }
 }
 
 // The number of listed handles; a number past the list counts none.
-pub fn count_at(t: &[u64], p: usize) -> usize
-    requires { (p < wait_places) × (length t.now ≡ table_length) }
+pub fn count_at(t: &Cells, p: usize) -> usize
+    requires { p < wait_places }
     ensures { result ≡ count_at t.now p }
 {
-    let n = listed_at(t, p);
+    let n = wait_cell(t, p, 5);
     if n <= (MAX_LISTED as u64) {
         return n as usize;
     }
     0
 }
 
-pub fn alert_at(t: &[u64], p: usize) -> u64
-    requires { (p < wait_places) × (length t.now ≡ table_length) }
-    ensures { result ≡ alert_at t.now p }
-{
-    wait_cell(t, p, 6)
-}
-
 // A wait's list, as a part of the tables.
-pub fn list_of(t: &[u64], p: usize) -> &[u64]
-    requires { (p < wait_places) × (length t.now ≡ table_length) }
+pub fn list_of(t: &Cells, p: usize) -> &[u64]
+    requires { p < wait_places }
     ensures { result.now ≡ list_of t.now p }
 {
     let n = count_at(t, p);
@@ -204,31 +200,27 @@ pub fn list_of(t: &[u64], p: usize) -> &[u64]
 }
 
 // The i-th handle of a wait's list.
-pub fn listed(t: &[u64], p: usize, i: usize) -> u64
-    requires { (p < wait_places) × (i < count_at t.now p) × (length t.now ≡ table_length) }
+pub fn listed(t: &Cells, p: usize, i: usize) -> u64
+    requires { (p < wait_places) × (i < count_at t.now p) }
     ensures { result ≡ get_or (list_of t.now p) i 0 }
 {
     wait_cell(t, p, HEADER_SIZE + i)
 }
 
 // A copy of a wait's list, which stays as it is when the tables change.
-pub fn copy_list(t: &[u64], p: usize) -> [u64; MAX_LISTED]
-    requires { (p < wait_places) × (length t.now ≡ table_length) }
+pub fn copy_list(t: &Cells, p: usize) -> [u64; MAX_LISTED]
+    requires { p < wait_places }
     ensures { (length result ≡ max_listed) × (take (count_at t.now p) result ≡ list_of t.now p) }
 {
-    let mut copy: [u64; MAX_LISTED] = [0; MAX_LISTED];
+    let mut copy = [0; MAX_LISTED];
     let list = list_of(t, p);
-    let mut i: usize = 0;
-    while i < list.len() {
-        copy[i] = list[i];
-        i += 1;
-    }
+    copy[..list.len()].copy_from_slice(list);
     copy
 }
 
 // All that a wait names: the alert, then the list.
-pub fn names_of(t: &[u64], p: usize) -> &[u64]
-    requires { (p < wait_places) × (length t.now ≡ table_length) }
+pub fn names_of(t: &Cells, p: usize) -> &[u64]
+    requires { p < wait_places }
     ensures { result.now ≡ names_of t.now p }
 {
     let n = count_at(t, p);
@@ -240,117 +232,77 @@ pub fn names_of(t: &[u64], p: usize) -> &[u64]
 pub fn has(list: &[u64], h: u64) -> bool
     ensures { result ≡ has list.now h }
 {
-    let mut found = false;
-    let mut i: usize = 0;
-    while i < list.len() {
-        found = found | (list[i] == h);
-        i += 1;
-    }
-    found
+    list.contains(&h)
 }
 
-pub fn names_at(t: &[u64], h: u64, p: usize) -> bool
-    requires { (p < wait_places) × (length t.now ≡ table_length) }
+pub fn names_at(t: &Cells, h: u64, p: usize) -> bool
+    requires { p < wait_places }
     ensures { result ≡ names_at t.now h p }
 {
     let names = names_of(t, p);
     has(names, h)
 }
 
-// The place of the wait with this ticket, for ticket 0 the lowest empty place; WAIT_PLACES where there is none.
-pub fn ticket_place(t: &[u64], ticket: u64) -> usize
-    requires { length t.now ≡ table_length }
-    ensures { result ≡ ticket_place t.now ticket }
+// The place of the wait with this ticket, for ticket 0 the lowest empty place.
+pub fn ticket_place(t: &Cells, ticket: u64) -> Option<usize>
+    ensures { Found result (ticket_place t.now ticket) wait_places }
 {
-    let mut p: usize = 0;
-    while p < WAIT_PLACES {
+    for p in 0..WAIT_PLACES {
         let here = ticket_at(t, p);
         if here == ticket {
-            return p;
+            return Some(p);
         }
-        p += 1;
     }
-    p
+    None
 }
 
-pub fn clear_wait(t: &mut [u64], p: usize)
-    requires { (p < wait_places) × (length t.old ≡ table_length) }
+pub fn clear_wait(t: &mut Cells, p: usize)
+    requires { p < wait_places }
     ensures { t.new ≡ clear_wait t.old p }
 {
     let base = WAITS_BASE + WAIT_SIZE * p;
-    let mut i: usize = 0;
-    while i < WAIT_SIZE {
-        let at = base + i;
-        t[at] = 0;
-        i += 1;
-    }
+    t[base..base + WAIT_SIZE].fill(0);
 }
 
 // ---- queuing
 
-pub fn put_header(
-    t: &mut [u64],
-    p: usize,
-    ticket: u64,
-    mode: u64,
-    owner: u64,
-    clock: u64,
-    timeout: u64,
-    n: u64,
-    alert: u64,
-)
-    requires { (p < wait_places) × (length t.old ≡ table_length) }
-    ensures { t.new ≡ put_header t.old p ticket mode owner clock timeout n alert }
+pub fn put_header(t: &mut Cells, p: usize, w: Header)
+    requires { p < wait_places }
+    ensures { t.new ≡ put_header t.old p w.ticket w.terms.mode w.terms.owner w.terms.clock w.terms.timeout w.listed
+        w.terms.alert }
 {
     let at = WAITS_BASE + WAIT_SIZE * p;
-    t[at] = ticket;
-    t[at + 1] = mode;
-    t[at + 2] = owner;
-    t[at + 3] = clock;
-    t[at + 4] = timeout;
-    t[at + 5] = n;
-    t[at + 6] = alert;
+    t[at] = w.ticket;
+    t[at + 1] = w.terms.mode;
+    t[at + 2] = w.terms.owner;
+    t[at + 3] = w.terms.clock;
+    t[at + 4] = w.terms.timeout;
+    t[at + 5] = w.listed;
+    t[at + 6] = w.terms.alert;
 }
 
-pub fn put_list(t: &mut [u64], p: usize, list: &[u64])
-    requires { (p < wait_places) × (length t.old ≡ table_length) × (length list.now ≤ max_listed) }
+pub fn put_list(t: &mut Cells, p: usize, list: &[u64])
+    requires { (p < wait_places) × (length list.now ≤ max_listed) }
     ensures { t.new ≡ put_list t.old p list.now }
 {
     let base = WAITS_BASE + WAIT_SIZE * p + HEADER_SIZE;
-    let mut k: usize = 0;
-    while k < list.len() {
-        let at = base + k;
-        t[at] = list[k];
-        k += 1;
+    for (k, h) in list.iter().enumerate() {
+        t[base + k] = *h;
     }
 }
 
 // A wait at empty place p, under the next ticket, which rises by one.
-pub fn queue(
-    t: &mut [u64],
-    p: usize,
-    mode: u64,
-    list: &[u64],
-    owner: u64,
-    clock: u64,
-    alert: u64,
-    timeout: u64,
-)
-    requires { (p < wait_places) × (length t.old ≡ table_length) × (length list.now ≤ max_listed) × (next_ticket t.old + 1 < word64) }
-    ensures { t.new ≡ queue_cells t.old p mode list.now owner clock alert timeout }
+pub fn queue(t: &mut Cells, p: usize, terms: Terms, list: &[u64])
+    requires { (p < wait_places) × (length list.now ≤ max_listed) × (next_ticket t.old + 1 < word64) }
+    ensures { t.new ≡ queue_cells t.old p terms.mode list.now terms.owner terms.clock terms.alert terms.timeout }
 {
     let ticket = next_ticket(t);
-    put_header(
-        t,
-        p,
+    let w = Header {
         ticket,
-        mode,
-        owner,
-        clock,
-        timeout,
-        list.len() as u64,
-        alert,
-    );
+        terms,
+        listed: list.len() as u64,
+    };
+    put_header(t, p, w);
     put_list(t, p, list);
     t[0] = ticket + 1;
 }
@@ -362,18 +314,16 @@ fn bits_of(t: &[u64], a: usize, n: usize) -> u64
     requires { a + n ≤ length t.now }
     ensures { result ≡ or_below (cell_from t.now a) n }
 {
-    let mut x: u64 = 0;
-    let mut k: usize = 0;
-    while k < n {
+    let mut x = 0;
+    for k in 0..n {
         x = x | t[a + k];
-        k += 1;
     }
     x
 }
 
 // A wait's list is zero from its end on.
-pub fn unused_zero(t: &[u64], p: usize) -> bool
-    requires { (p < wait_places) × (length t.now ≡ table_length) }
+pub fn unused_zero(t: &Cells, p: usize) -> bool
+    requires { p < wait_places }
     ensures { result ≡ unused_zero t.now p (count_at t.now p) }
 {
     let n = count_at(t, p);
@@ -382,37 +332,21 @@ pub fn unused_zero(t: &[u64], p: usize) -> bool
 }
 
 // All cells of an empty wait place are zero.
-pub fn free_zero(t: &[u64], p: usize) -> bool
-    requires { (p < wait_places) × (length t.now ≡ table_length) }
+pub fn free_zero(t: &Cells, p: usize) -> bool
+    requires { p < wait_places }
     ensures { result ≡ valid_free t.now p }
 {
     bits_of(t, WAITS_BASE + WAIT_SIZE * p, WAIT_SIZE) == 0
 }
 
-// ---- making and copying
+// ---- making
 
 // Newly made tables: next ticket 1, all else zero.
-pub fn make(t: &mut [u64])
-    requires { length t.old ≡ table_length }
+pub fn make(t: &mut Cells)
     ensures { t.new ≡ made_cells t.old }
 {
-    let mut i: usize = 0;
-    while i < TABLE_LENGTH {
-        t[i] = 0;
-        i += 1;
-    }
+    t.fill(0);
     t[0] = 1;
-}
-
-pub fn copy(to: &mut [u64], from: &[u64])
-    requires { (length to.old ≡ table_length) × (length from.now ≡ table_length) }
-    ensures { to.new ≡ from.now }
-{
-    let mut i: usize = 0;
-    while i < TABLE_LENGTH {
-        to[i] = from[i];
-        i += 1;
-    }
 }
 
 // ---- the sizes, tied to the numbers of the meaning

@@ -1,16 +1,20 @@
-use Rattle.tables.proofs.Laws.{copied, copy_is, count_le}
+use mathlib.Core.Path.{sym, ap, ◌∙◌}
+use lib.ListN.{length}
+use lib.Seq.{length-take-le}
 use Rattle.refine.proofs.Validity.{list_length}
-use lib.ListN.{length, length-set}
-use mathlib.Core.Path.{refl, ap}
-use native.Mathlib.Omega.{arith}
-use borrow.Author.Rules.{rules}
+use Rattle.tables.proofs.Laws.{list_short, front_length, front_taken}
 use Rattle.tables.proofs.copy_list.Goals as goal
 
-pub loop-i-init : goal.loop-i-init
-loop-i-init c = let a = c.args in (search rules, refl, omega (arith, list_length a.t.now c.requires.1 a.p c.requires.0, count_le a.t.now a.p, ap length c.list_of-list.ensures), refl)
+pub slice_bounds-copy-end : goal.slice_bounds-copy-end
+slice_bounds-copy-end c = let a = c.args in list_short a.t.now a.p c.told-t c.requires c.list_of-list.ensures
 
-pub loop-i-preserved : goal.loop-i-preserved
-loop-i-preserved c = (search rules, simp length-set c.loop-i.invariant.1, c.loop-i.invariant.2, copied c.loop-i.copy c.list_of-list.result.now c.loop-i.i c.loop-i.invariant.3 (omega arith) c.loop-i-test.true)
+pub slice_bounds-copy_from_slice-end : goal.slice_bounds-copy_from_slice-end
+slice_bounds-copy_from_slice-end c = let a = c.args in sym (length-take-le _ _ (list_short a.t.now a.p c.told-t c.requires c.list_of-list.ensures))
+
+pub copy_from_slice-requires : goal.copy_from_slice-requires
+copy_from_slice-requires c = let a = c.args in length-take-le _ _ (list_short a.t.now a.p c.told-t c.requires c.list_of-list.ensures)
 
 pub returns : goal.returns
-returns c = let a = c.args in (c.loop-i.invariant.1, copy_is a.t.now a.p c.loop-i.i c.loop-i.copy c.requires.1 c.requires.0 c.list_of-list.ensures (omega arith) c.loop-i.invariant.3)
+returns c = let a = c.args in let list = c.list_of-list.result.now in let h = c.requires in let l = c.told-t in let q = c.list_of-list.ensures in
+    let n = ap length q ∙ list_length a.t.now l a.p h in
+    (front_length list _ _ c.copy_from_slice.ensures.after (list_short a.t.now a.p l h q), front_taken list _ _ _ c.copy_from_slice.ensures.after (sym n) ∙ q)

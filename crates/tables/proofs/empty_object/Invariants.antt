@@ -4,11 +4,8 @@ use Rattle.model.specs.Sizes.{object_places}
 use Rattle.cells.specs.Fold.{search_from}
 use lib.Dec.{eqb}
 use mathlib.Core.Path.{◌≡◌}
-use Prim.Native.Nat.{◌≤◌, ◌-◌}
+use Prim.Native.Nat.{◌-◌}
 use Rattle.tables.proofs.empty_object.Given as goal
 
 abbrev pub invariant-loop-p : goal.invariant-loop-p
-invariant-loop-p l = (l.p ≤ object_places) × (empty_object l.t ≡ search_from (λ q. eqb (fields_at l.t q).kind 0) l.p (object_places - l.p))
-
-abbrev pub decreases-loop-p : goal.decreases-loop-p
-decreases-loop-p l = object_places - l.p
+invariant-loop-p l = empty_object l.t ≡ search_from (λ q. eqb (fields_at l.t q).kind 0) l.p (object_places - l.p)

@@ -1,26 +1,6 @@
-use lib.ListN.{length-set}
 use Rattle.cells.specs.Calls.{put_header}
-use native.Mathlib.Omega.{arith}
 use borrow.Author.Rules.{rules}
 use Rattle.tables.proofs.put_header.Goals as goal
-
-pub bounds-t-at-2 : goal.bounds-t-at-2
-bounds-t-at-2 c = simp length-set (omega arith)
-
-pub bounds-t-at-3 : goal.bounds-t-at-3
-bounds-t-at-3 c = simp length-set (omega arith)
-
-pub bounds-t-at-4 : goal.bounds-t-at-4
-bounds-t-at-4 c = simp length-set (omega arith)
-
-pub bounds-t-at-5 : goal.bounds-t-at-5
-bounds-t-at-5 c = simp length-set (omega arith)
-
-pub bounds-t-at-6 : goal.bounds-t-at-6
-bounds-t-at-6 c = simp length-set (omega arith)
-
-pub bounds-t-at-7 : goal.bounds-t-at-7
-bounds-t-at-7 c = simp length-set (omega arith)
 
 pub returns : goal.returns
 unfolding put_header

@@ -8,7 +8,7 @@ pub overflow_sub-h : goal.overflow_sub-h
 overflow_sub-h c = let r = handle_low c.args.h (sym c.is_handle-handle.ensures ∙ c.if-handle.true) in omega (arith, r.0)
 
 pub put_object-requires : goal.put_object-requires
-put_object-requires c = let r = handle_low c.args.h (sym c.is_handle-handle.ensures ∙ c.if-handle.true) in (omega (arith, r.0, r.1), c.requires)
+put_object-requires c = let r = handle_low c.args.h (sym c.is_handle-handle.ensures ∙ c.if-handle.true) in omega (arith, r.0, r.1)
 
 pub returns-then-handle : goal.returns-then-handle
 returns-then-handle c = let a = c.args in c.put_object.ensures ∙ store_at a.t.now a.h c.is_handle-handle.ensures (cells_of a.o) c.if-handle.true

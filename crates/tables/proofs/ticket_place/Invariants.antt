@@ -4,11 +4,8 @@ use Rattle.model.specs.Sizes.{wait_places}
 use Rattle.cells.specs.Fold.{search_from}
 use lib.Dec.{eqb}
 use mathlib.Core.Path.{◌≡◌}
-use Prim.Native.Nat.{◌≤◌, ◌-◌}
+use Prim.Native.Nat.{◌-◌}
 use Rattle.tables.proofs.ticket_place.Given as goal
 
 abbrev pub invariant-loop-p : goal.invariant-loop-p
-invariant-loop-p l = (l.p ≤ wait_places) × (ticket_place l.t l.ticket ≡ search_from (λ q. eqb (ticket_at l.t q) l.ticket) l.p (wait_places - l.p))
-
-abbrev pub decreases-loop-p : goal.decreases-loop-p
-decreases-loop-p l = wait_places - l.p
+invariant-loop-p l = ticket_place l.t l.ticket ≡ search_from (λ q. eqb (ticket_at l.t q) l.ticket) l.p (wait_places - l.p)
