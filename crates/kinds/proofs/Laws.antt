@@ -1,19 +1,23 @@
 -- What the rules come to on each way through the code.
-use Prim.Native.Nat.{ℕ, ◌+◌, ◌-◌, ◌≤◌, ◌<◌}
+use Prim.Native.Nat.{ℕ, ◌<◌}
 use mathlib.Core.Path.{◌≡◌, refl, ap, sym, ◌∙◌}
 use mathlib.Core.Bool.{Bool, true, false, not, ◌&&◌, ◌||◌, cond, and_assoc, and-true, beq}
 use mathlib.Core.List.{List, [], ◌∷◌}
-use native.Mathlib.Omega.{arith}
-use borrow.Author.Tests.{lt-ltb, le-ltb, ne_eqb, leb-true, leb-false}
+use borrow.Author.Tests.{lt-ltb, le-ltb, leb-true, leb-false}
 use lib.Dec.{eqb, ltb, leb, leb-suc-suc}
 use Rattle.model.specs.Basics.{bit, all_of}
-use Rattle.model.specs.Sizes.{mutex_ceiling, word32}
+use Rattle.model.specs.Sizes.{word32}
 use Rattle.model.specs.Objects.{never_signaled}
 use Rattle.model.specs.Calls.{Kind, a_semaphore, a_mutex, an_event, bad_new}
 use Rattle.model.proofs.Logic.{by_bool, not_twice, not_or, one_or_more}
-use Rattle.cells.specs.Objects.{Fields, fields, no_fields, changed, acquired_fields, post_fields, if_held, unlock_fields}
+use Rattle.cells.specs.Objects.{Fields, fields, no_fields, changed}
 use Rattle.cells.specs.Validity.{valid_fields}
 use Rattle.cells.specs.Calls.{new_fields}
+use Rattle.std.specs.Bool.{then_some}
+use Rattle.std.specs.Option.{ok_or}
+use Rattle.kinds.specs.Values.{cells_of, changed_by, creation}
+use Rattle.kinds.specs.declared.object.Object.{Object}
+use Rattle.kinds.specs.declared.refusal.Refusal.TheVariants.{Invalid}
 
 -- a test and its converse
 not_more : (a b : ℕ) → leb a b ≡ not (ltb b a)
@@ -68,58 +72,10 @@ new_valid a_semaphore x y hx hy = rw (lt-ltb y word32 hy, and-true (not (never_s
 new_valid a_mutex x y hx hy = rw (lt-ltb x word32 hx, lt-ltb y word32 hy, and-true (eqb (bit (eqb x 0)) (bit (eqb y 0)))) (not_twice (eqb (bit (eqb x 0)) (bit (eqb y 0))))
 new_valid an_event x y hx hy = rw (bit_small (not (eqb x 0)), bit_small (not (eqb y 0)))
 
-turned : (b : Bool) (x y : Fields) → cond (not b) x y ≡ cond b y x
-turned true x y = refl
-turned false x y = refl
+made : (bad : Bool) (o : Object) {f : Fields} → cells_of o ≡ f → changed_by no_fields (ok_or (then_some (not bad) o) Invalid) ≡ cond bad (changed 1 no_fields) (changed 0 f)
+made true o e = refl
+made false o e = ap (changed 0) e
 
-pub created : (k : Kind) (x y : ℕ) {valid ok : Bool} {f g : Fields} → x < word32 → y < word32 → valid ≡ valid_fields (new_fields k x y) → g ≡ new_fields k x y → ok ≡ valid → f ≡ cond valid g no_fields
-    → (ok ≡ not (bad_new k x y)) × (f ≡ cond (bad_new k x y) no_fields (new_fields k x y))
-created k x y {valid} hx hy v g o f = let e : valid ≡ not (bad_new k x y) = v ∙ new_valid k x y hx hy in
-    (o ∙ e, f ∙ rw (e, g) (turned (bad_new k x y) (new_fields k x y) no_fields))
-
--- acquiring a semaphore at 0 leaves it there
-pub acquired_none : (asking : ℕ) {k c o a : ℕ} → k ≡ 1 → c ≡ 0 → fields k c o a ≡ acquired_fields asking (fields k c o a)
-unfolding acquired_fields
-acquired_none asking e z = rw (e, z)
-
--- post: compared without the sum
-pub post_low : (add : ℕ) {k c o m : ℕ} → k ≡ 1 → m < c → changed 3 (fields k c o m) ≡ post_fields add (fields k c o m)
-unfolding post_fields
-post_low add {k} {c} {o} {m} e l = rw (e, lt-ltb m (c + add) (omega arith))
-
-pub post_over : (add : ℕ) {k c o m : ℕ} → k ≡ 1 → c ≤ m → m - c < add → changed 3 (fields k c o m) ≡ post_fields add (fields k c o m)
-unfolding post_fields
-post_over add {k} {c} {o} {m} e l h = rw (e, lt-ltb m (c + add) (omega arith))
-
-pub post_done : (add : ℕ) {k c o m : ℕ} → k ≡ 1 → c ≤ m → add ≤ m - c → changed 0 (fields 1 (c + add) o m) ≡ post_fields add (fields k c o m)
-unfolding post_fields
-post_done add {k} {c} {o} {m} e l h = rw (e, le-ltb m (c + add) (omega arith))
-
--- unlock and kill: refused, or held
-pub held_refused : (asking : ℕ) {r : ℕ} (x next : Fields) → r ≡ (if_held asking x x).answer → (r ≡ 0 → ⊥) → changed r x ≡ if_held asking x next
-held_refused asking {r} x next e n = by_bool (eqb x.kind 2)
-    (λ k. by_bool (eqb asking 0) (λ a. let q : r ≡ 1 = rw (k, a) at e in rw (k, a, q))
-    (λ a. by_bool (eqb x.owner asking) (λ o. absurd (n (let q : r ≡ 0 = rw (k, a, o) at e in q))) (λ o. let q : r ≡ 2 = rw (k, a, o) at e in rw (k, a, o, q))))
-    (λ k. let q : r ≡ 1 = rw k at e in rw (k, q))
-
-pub held_done : (asking : ℕ) {r : ℕ} (x next : Fields) → r ≡ (if_held asking x x).answer → r ≡ 0 → changed 0 next ≡ if_held asking x next
-held_done asking {r} x next e z = by_bool (eqb x.kind 2)
-    (λ k. by_bool (eqb asking 0) (λ a. absurd (let q : r ≡ 1 = rw (k, a) at e in let w : ⊥ = omega arith in w))
-    (λ a. by_bool (eqb x.owner asking) (λ o. rw (k, a, o)) (λ o. absurd (let q : r ≡ 2 = rw (k, a, o) at e in let w : ⊥ = omega arith in w))))
-    (λ k. absurd (let q : r ≡ 1 = rw k at e in let w : ⊥ = omega arith in w))
-
--- the last unlock, and any other
-pub unlock_last : (asking : ℕ) (x : Fields) {r w : ℕ} → r ≡ (if_held asking x x).answer → r ≡ 0 → x.count ≤ 1 → w ≡ cond (eqb x.count 1) 0 x.owner → changed 0 (fields 2 0 w x.attribute) ≡ unlock_fields asking x
-unfolding unlock_fields
-unlock_last asking x {r} {w} e z l q = let m : x.count - 1 ≡ 0 = omega arith in
-    ap (λ (n : ℕ). changed 0 (fields 2 0 n x.attribute)) q ∙ ap (λ (n : ℕ). changed 0 (fields 2 n (cond (eqb x.count 1) 0 x.owner) x.attribute)) (sym m) ∙ held_done asking x (fields 2 (x.count - 1) (cond (eqb x.count 1) 0 x.owner) x.attribute) e z
-
-pub unlock_more : (asking : ℕ) (x : Fields) {r : ℕ} → r ≡ (if_held asking x x).answer → r ≡ 0 → 1 < x.count → changed 0 (fields 2 (x.count - 1) x.owner x.attribute) ≡ unlock_fields asking x
-unfolding unlock_fields
-unlock_more asking x {r} e z l = let n : eqb x.count 1 ≡ false = ne_eqb x.count 1 (λ i. let w : ⊥ = omega arith in w) in
-    ap (λ (b : Bool). changed 0 (fields 2 (x.count - 1) (cond b 0 x.owner) x.attribute)) (sym n) ∙ held_done asking x (fields 2 (x.count - 1) (cond (eqb x.count 1) 0 x.owner) x.attribute) e z
-
--- a mutex gains one and takes the owner
-pub acquired_mutex : (asking : ℕ) (x : Fields) → x.kind ≡ 2 → x.count < mutex_ceiling → fields 2 (x.count + 1) asking 0 ≡ acquired_fields asking x
-unfolding acquired_fields
-acquired_mutex asking x k l = rw (k, lt-ltb x.count mutex_ceiling l)
+pub created : (k : Kind) (x y : ℕ) {valid : Bool} {o : Object} → x < word32 → y < word32 → valid ≡ valid_fields (new_fields k x y) → cells_of o ≡ new_fields k x y
+    → changed_by no_fields (ok_or (then_some valid o) Invalid) ≡ creation k x y
+created k x y {valid} {o} hx hy v e = let b : valid ≡ not (bad_new k x y) = v ∙ new_valid k x y hx hy in rw b (made (bad_new k x y) o e)

@@ -1,0 +1,40 @@
+ghost use Rattle.std.specs.Prelude.{◌≡◌};
+ghost use Rattle.model.specs.Calls.{a_semaphore};
+ghost use Rattle.cells.specs.Objects.{fields, no_fields};
+ghost use Rattle.cells.specs.Validity.{valid_fields};
+ghost use Rattle.kinds.specs.Values.{changed_by, creation};
+
+use crate::kind::Kind;
+use crate::object::Object;
+use crate::refusal::Refusal;
+
+// What a semaphore's numbers may be: its constructor and the validity check both ask `valid`.
+pub struct Semaphore;
+
+impl Semaphore {
+    // The highest maximum: counts have 32 bits.
+    pub const MAX_COUNT: u64 = 4294967295;
+
+    // The lowest maximum: with 0 it could never be signaled (house).
+    pub const LOWEST_MAX: u64 = 1;
+
+    // The count does not exceed the maximum, and the maximum is within its limits.
+    pub fn valid(count: u64, max: u64) -> bool
+        ensures { result ≡ valid_fields (fields 1 count 0 max) }
+    {
+        (count <= max) & (max <= Semaphore::MAX_COUNT) & (Semaphore::LOWEST_MAX <= max)
+    }
+
+    pub fn create(count: u32, max: u32) -> Result<Object, Refusal>
+        ensures { changed_by no_fields result ≡ creation a_semaphore count max }
+    {
+        let o = Object {
+            kind: u64::from(Kind::Semaphore),
+            count: u64::from(count),
+            attribute: u64::from(max),
+            ..Object::EMPTY
+        };
+        let ok = Semaphore::valid(o.count, o.attribute);
+        ok.then_some(o).ok_or(Refusal::Invalid)
+    }
+}
