@@ -1,7 +1,7 @@
 -- What the definitions of an attempt come to on each way through the code.
 use Prim.Native.Nat.{ℕ, ◌+◌, ◌-◌, ◌<◌, ◌≤◌}
 use mathlib.Core.Path.{◌≡◌, refl, sym, ◌∙◌}
-use mathlib.Core.Bool.{Bool, true, false, not, ◌||◌, ◌&&◌, cond}
+use mathlib.Core.Bool.{Bool, true, false, not, ◌||◌, ◌&&◌}
 use mathlib.Core.List.{List}
 use native.Mathlib.Omega.{arith}
 use lib.ListN.{length, get_or}
@@ -12,7 +12,7 @@ use Rattle.model.proofs.Logic.{by_bool, clash, not_true, not_false}
 use Rattle.refine.proofs.Fold.{all_at_lem}
 use Rattle.cells.specs.Fold.{all_below, search_from}
 use Rattle.cells.specs.Objects.{Fields, named, store, signaled_fields, acquired_fields, abandoned_fields}
-use Rattle.cells.specs.Attempt.{signaled_at, acquire_at, abandoned_at, look_any, look_all, acquire_first, abandoned_first, Tried, missed, take_one, take_all, by_alert, try_any, try_all, try_list}
+use Rattle.cells.specs.Attempt.{signaled_at, acquire_at, abandoned_at, look_any, look_all, acquire_first, abandoned_first, Tried, missed, took, take_one, take_all, by_alert, try_any, try_all, try_list}
 use Rattle.cells.proofs.Fold.{fold_none, fold_more, search_found, search_on, search_end}
 
 -- one object
@@ -82,12 +82,12 @@ module _ (t : List ℕ) (asking : ℕ) (list : List ℕ) where
 
 -- attempts
 module _ (t : List ℕ) (asking : ℕ) where
-  pub taken : (h i : ℕ) {dead : Bool} {a : ℕ} {u : List ℕ} → u ≡ acquire_at t asking h → dead ≡ abandoned_at t h → a ≡ cond dead 4 0 → record { served = true; answer = a; index = i; tables = u } ≡ take_one t asking h i
+  pub taken : (h i : ℕ) {dead : Bool} {u : List ℕ} → u ≡ acquire_at t asking h → dead ≡ abandoned_at t h → took dead i u ≡ take_one t asking h i
   unfolding take_one
-  taken h i q d e = rw (e, d, q)
+  taken h i q d = rw (d, q)
 
-  pub taken_all : (list : List ℕ) {dead : Bool} {a : ℕ} {u : List ℕ} → u ≡ acquire_first t asking list (length list) → dead ≡ abandoned_first t asking list (length list) → a ≡ cond dead 4 0 → record { served = true; answer = a; index = 0; tables = u } ≡ take_all t asking list
-  taken_all list q d e = rw (e, d, q)
+  pub taken_all : (list : List ℕ) {dead : Bool} {u : List ℕ} → u ≡ acquire_first t asking list (length list) → dead ≡ abandoned_first t asking list (length list) → took dead 0 u ≡ take_all t asking list
+  taken_all list q d = rw (d, q)
 
   pub alert_took : (alert n : ℕ) {b : Bool} {x : Tried} → b ≡ signaled_at t asking alert → b ≡ true → x ≡ take_one t asking alert n → x ≡ by_alert t asking alert n
   unfolding by_alert

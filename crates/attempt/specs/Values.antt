@@ -1,7 +1,8 @@
 -- What an attempt leaves, as the definitions of `cells` have it.
-use Rattle.std.specs.Prelude.{ℕ, List}
-use Rattle.cells.specs.Attempt.{Tried}
-use Rattle.attempt.specs.declared.Attempted.{Attempted}
+use Rattle.std.specs.Prelude.{ℕ, List, Option, Some, None}
+use Rattle.cells.specs.Attempt.{Tried, missed, took}
+use Rattle.attempt.specs.declared.Served.{Served}
 
-abbrev pub tried_by : Attempted → List ℕ → Tried
-tried_by r t = record { served = r.served; answer = r.answer; index = r.index; tables = t }
+abbrev pub tried_by : Option Served → List ℕ → Tried
+tried_by (Some r) t = took r.abandoned r.index t
+tried_by None t = missed t

@@ -1,9 +1,10 @@
 use mathlib.Core.Path.{◌∙◌}
+use native.Mathlib.Nat.{le_refl}
 use Rattle.attempt.proofs.Laws.{any_took, any_left}
 use Rattle.attempt.proofs.try_any.Goals as goal
 
-pub returns-then-i-n : goal.returns-then-i-n
-returns-then-i-n c = let a = c.args in c.take_one.ensures ∙ any_took a.t.now a.asking a.alert a.list.now c.look_any-i.ensures c.if-i-n.true
+pub returns-in-Some : goal.returns-in-Some
+returns-in-Some c = let a = c.args in let e = c.in-Some.ensures in c.take_one.ensures ∙ any_took a.t.now a.asking a.alert a.list.now e.0 e.1
 
-pub returns : goal.returns
-returns c = let a = c.args in c.by_alert.ensures ∙ any_left a.t.now a.asking a.alert a.list.now c.look_any-i.ensures c.if-i-n.false
+pub returns-in-None : goal.returns-in-None
+returns-in-None c = let a = c.args in c.by_alert.ensures ∙ any_left a.t.now a.asking a.alert a.list.now c.in-None.ensures (le_refl _)
