@@ -1,115 +1,121 @@
 // The queue by ticket: the next wait, the waits whose time is up, and how a wait leaves: its record, its place cleared.
 #![tactic(auto)]
 
-ghost use Rattle.std.specs.Prelude.{◌≡◌, ◌≤◌, ◌<◌, length};
+ghost use Rattle.std.specs.Prelude.{◌≡◌, ◌≤◌, ◌<◌, ℕ, Bool, length, IfSome};
 ghost use Rattle.model.specs.Sizes.{wait_places, wake_length};
-ghost use Rattle.model.specs.Layout.{table_length};
 ghost use Rattle.cells.specs.Waits.{better, lowest, next_wait, put_record, clear_wait};
 ghost use Rattle.cells.specs.Walk.{due_at, walked, end_cells};
+ghost use Rattle.tables.specs.Found.{Found};
+ghost use Rattle.ending.specs.Lowest.{lower_than, Tells};
 
-// Place i instead of the best so far, where it passes and its ticket is below the best one's; WAIT_PLACES is none.
-fn better(t: &[u64], passes: bool, best: usize, i: usize) -> usize
-    requires { (i < wait_places) × (length t.now ≡ table_length) }
-    ensures { result ≡ better t.now (λ _. passes) best i }
+use tables::Cells;
+
+// Whether the ticket at place i is below that of the best place so far.
+fn is_lower(t: &Cells, i: usize, best: Option<usize>) -> bool
+    requires place { i < wait_places }
+    requires best { IfSome best (λ b. b < wait_places) }
+    ensures { result ≡ lower_than t.now i best }
+{
+    match best {
+        Some(b) => tables::ticket_at(t, i) < tables::ticket_at(t, b),
+        None => true,
+    }
+}
+
+// Place i in place of the best so far, where it passes and its ticket is lower.
+fn better(t: &Cells, passes: bool, best: Option<usize>, i: usize) -> Option<usize>
+    requires place { i < wait_places }
+    requires best { IfSome best (λ b. b < wait_places) }
+    ensures bound { IfSome result (λ b. b < wait_places) }
+    ensures lowest { (k : ℕ) → Found best k wait_places → Found result (better t.now (λ _. passes) k i) wait_places }
 {
     if !passes {
         return best;
     }
-    if tables::WAIT_PLACES <= best {
-        return i;
-    }
-    let here = tables::ticket_at(t, i);
-    let there = tables::ticket_at(t, best);
-    if here < there {
-        return i;
+    if is_lower(t, i, best) { Some(i) } else { best }
+}
+
+// Of the wait places that pass, the one of the lowest ticket.
+fn lowest<F: Fn(usize) -> bool>(t: &Cells, passes: F) -> Option<usize>
+    requires { (i : ℕ) → i < wait_places → F.pre passes i }
+    ensures { (ok : ℕ → Bool) → Tells (F.post passes) ok → Found result (lowest t.now ok) wait_places }
+{
+    let mut best = None;
+    for i in 0..tables::WAIT_PLACES {
+        let here = passes(i);
+        best = better(t, here, best, i);
     }
     best
 }
 
-// The place of the lowest ticket above last; WAIT_PLACES where there is none.
-pub fn next_wait(t: &[u64], last: u64) -> usize
-    requires { length t.now ≡ table_length }
-    ensures { result ≡ next_wait t.now last }
+// The place of the lowest ticket above last.
+pub fn next_wait(t: &Cells, last: u64) -> Option<usize>
+    ensures { Found result (next_wait t.now last) wait_places }
 {
-    let mut best: usize = tables::WAIT_PLACES;
-    let mut i: usize = 0;
-    while i < tables::WAIT_PLACES {
-        let ticket = tables::ticket_at(t, i);
-        best = better(t, last < ticket, best, i);
-        i += 1;
-    }
-    best
+    lowest(t, |i| last < tables::ticket_at(t, i))
 }
 
 // A queued wait on this clock whose time is up.
-fn due(t: &[u64], clock: u64, time: u64, p: usize) -> bool
-    requires { (p < wait_places) × (length t.now ≡ table_length) }
+fn due(t: &Cells, clock: u64, time: u64, p: usize) -> bool
+    requires { p < wait_places }
     ensures { result ≡ due_at t.now clock time p }
 {
-    let ticket = tables::ticket_at(t, p);
-    let own = tables::clock_at(t, p);
-    let timeout = tables::timeout_at(t, p);
-    let up = attempt::time_up(timeout, time);
-    (0 < ticket) & ((own == clock) & up)
+    let w = tables::header_at(t, p);
+    let up = attempt::time_up(w.terms.timeout, time);
+    (0 < w.ticket) & ((w.terms.clock == clock) & up)
 }
 
 // Of the waits that are due, the place of the lowest ticket.
-pub fn next_due(t: &[u64], clock: u64, time: u64) -> usize
-    requires { length t.now ≡ table_length }
-    ensures { result ≡ lowest t.now (due_at t.now clock time) }
+pub fn next_due(t: &Cells, clock: u64, time: u64) -> Option<usize>
+    ensures { Found result (lowest t.now (due_at t.now clock time)) wait_places }
 {
-    let mut best: usize = tables::WAIT_PLACES;
-    let mut i: usize = 0;
-    while i < tables::WAIT_PLACES {
-        let passes = due(t, clock, time, i);
-        best = better(t, passes, best, i);
-        i += 1;
-    }
-    best
+    lowest(t, |p| due(t, clock, time, p))
+}
+
+// What a wake list tells of a wait that leaves the queue.
+#[derive(Clone, Copy)]
+pub struct Record {
+    pub ticket: u64,
+    pub answer: u64,
+    pub index: u64,
 }
 
 // Record k of a wake list.
-pub fn put_record(wake: &mut [u64], k: usize, ticket: u64, answer: u64, index: u64)
+pub fn put_record(wake: &mut [u64], k: usize, r: Record)
     requires { (k < wait_places) × (wake_length ≤ length wake.old) }
-    ensures { wake.new ≡ put_record wake.old k ticket answer index }
+    ensures { wake.new ≡ put_record wake.old k r.ticket r.answer r.index }
 {
     let at = 3 * k;
-    wake[at] = ticket;
-    wake[at + 1] = answer;
-    wake[at + 2] = index;
+    wake[at] = r.ticket;
+    wake[at + 1] = r.answer;
+    wake[at + 2] = r.index;
 }
 
 // The wait at place p leaves the queue and is told in record k.
-pub fn leave(
-    t: &mut [u64],
-    wake: &mut [u64],
-    p: usize,
-    k: usize,
-    ticket: u64,
-    answer: u64,
-    index: u64,
-)
-    requires { (p < wait_places) × (k < wait_places) × (length t.old ≡ table_length) × (wake_length ≤ length wake.old) }
-    ensures { (t.new ≡ clear_wait t.old p) × (wake.new ≡ put_record wake.old k ticket answer index) }
+pub fn leave(t: &mut Cells, wake: &mut [u64], p: usize, k: usize, r: Record)
+    requires { (p < wait_places) × (k < wait_places) × (wake_length ≤ length wake.old) }
+    ensures { (t.new ≡ clear_wait t.old p) × (wake.new ≡ put_record wake.old k r.ticket r.answer r.index) }
 {
-    put_record(wake, k, ticket, answer, index);
+    put_record(wake, k, r);
     tables::clear_wait(t, p);
 }
 
 // Every wait on this clock whose time is up ends with 5, lowest ticket first; how many.
-pub fn end_due(t: &mut [u64], wake: &mut [u64], clock: u64, time: u64) -> usize
-    requires { (length t.old ≡ table_length) × (wake_length ≤ length wake.old) }
+pub fn end_due(t: &mut Cells, wake: &mut [u64], clock: u64, time: u64) -> usize
+    requires { wake_length ≤ length wake.old }
     ensures { (walked result t.new wake.new ≡ end_cells wait_places clock time (walked 0 t.old wake.old)) × (result ≤ wait_places) }
 {
-    let mut k: usize = 0;
-    while k < tables::WAIT_PLACES {
-        let p = next_due(t, clock, time);
-        if tables::WAIT_PLACES <= p {
+    for k in 0..tables::WAIT_PLACES {
+        let Some(p) = next_due(t, clock, time) else {
             return k;
-        }
+        };
         let ticket = tables::ticket_at(t, p);
-        leave(t, wake, p, k, ticket, 5, 0);
-        k += 1;
+        let r = Record {
+            ticket,
+            answer: 5,
+            index: 0,
+        };
+        leave(t, wake, p, k, r);
     }
-    k
+    tables::WAIT_PLACES
 }

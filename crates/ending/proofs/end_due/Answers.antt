@@ -1,17 +1,17 @@
 use Rattle.ending.proofs.Laws.{end_stop, end_more, end_last}
-use mathlib.Core.Path.{refl, sym, ◌∙◌}
+use Rattle.model.specs.Sizes.{wait_places}
+use mathlib.Core.Path.{◌≡◌, refl, sym, ◌∙◌}
 use native.Mathlib.Omega.{arith}
-use borrow.Author.Rules.{rules}
 use Rattle.ending.proofs.end_due.Goals as goal
 
 pub loop-k-init : goal.loop-k-init
-loop-k-init c = (search rules, refl, refl, refl)
+loop-k-init c = (c.told-t, refl)
 
-pub returns-then-p-ge-WAIT_PLACES : goal.returns-then-p-ge-WAIT_PLACES
-returns-then-p-ge-WAIT_PLACES c = let a = c.args in (sym (c.loop-k.invariant.3 ∙ end_stop a.clock a.time c.loop-k.t c.loop-k.wake c.loop-k.k c.loop-k-test.true c.next_due-p.ensures c.if-p-ge-WAIT_PLACES.true), omega arith)
+pub returns-in_default : goal.returns-in_default
+returns-in_default c = let a = c.args in (sym (c.loop-k.invariant.1 ∙ end_stop a.clock a.time c.loop-k.t c.loop-k.wake c.loop-k.k c.loop-k-test.true c.in_default.ensures), omega arith)
 
 pub loop-k-preserved : goal.loop-k-preserved
-loop-k-preserved c = let a = c.args in (search rules, search rules, search rules, c.loop-k.invariant.3 ∙ end_more a.clock a.time c.loop-k.t c.loop-k.wake c.loop-k.k c.loop-k-test.true c.next_due-p.ensures c.if-p-ge-WAIT_PLACES.false c.ticket_at-ticket.ensures c.leave.ensures.0 c.leave.ensures.1)
+loop-k-preserved c = let a = c.args in let e = c.in-Some.ensures in (c.leave.array_long, c.loop-k.invariant.1 ∙ end_more a.clock a.time c.loop-k.t c.loop-k.wake c.loop-k.k c.loop-k-test.true e.0 e.1 c.ticket_at-ticket.ensures c.leave.ensures.0 c.leave.ensures.1)
 
 pub returns : goal.returns
-returns c = let a = c.args in (sym (c.loop-k.invariant.3 ∙ end_last a.clock a.time c.loop-k.t c.loop-k.wake c.loop-k.k c.loop-k-test.false), omega arith)
+returns c = let a = c.args in let e : c.loop-k.k ≡ wait_places = omega arith in (sym (c.loop-k.invariant.1 ∙ end_last a.clock a.time c.loop-k.t c.loop-k.wake c.loop-k.k c.loop-k-test.false ∙ rw e), omega arith)
