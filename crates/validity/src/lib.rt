@@ -10,36 +10,27 @@ ghost use Rattle.cells.specs.Objects.{fields_at};
 ghost use Rattle.cells.specs.Validity.{valid_fields, occupied_at, event_at, occupied_list, proper_handles, proper_list, proper_alert, alone_at, header_tests, names_tests, valid_place, valid_cells};
 ghost use Rattle.kinds.specs.Values.{cells_of};
 
-use kinds::{Event, Mutex, Object, Semaphore};
+use kinds::{Event, Kind, Mutex, Object, Semaphore};
 
 // Flags for the numbers below it, among them every handle.
 const MARKS: usize = 2 * tables::OBJECT_PLACES;
 
 // ---- objects
 
-// Each kind answers for its numbers; the cells that an object has no use for are 0.
+// Each kind answers for its numbers; the cells that an object has no use for are 0, in an empty place all.
+#[tactic(auto, unfolding(cells::specs::Validity::valid_fields, model::specs::Basics::all_of))]
 fn valid_object(o: Object) -> bool
     ensures { result ≡ valid_fields (cells_of o) }
 {
-    let kind = o.kind;
-    let count = o.count;
-    let owner = o.owner;
-    let attribute = o.attribute;
-    if kind == 0 {
-        return (count == 0) & (owner == 0) & (attribute == 0);
+    match Kind::try_from(o.kind) {
+        Ok(Kind::Semaphore) => Semaphore::valid(o.count, o.attribute) & (o.owner == 0),
+        Ok(Kind::Mutex) => Mutex::valid(o.owner, o.count, o.attribute),
+        Ok(Kind::Event) => Event::valid(o.count, o.attribute) & (o.owner == 0),
+        Err(_) => o == Object::EMPTY,
     }
-    if kind == Semaphore::KIND {
-        return Semaphore::valid(count, attribute) & (owner == 0);
-    }
-    if kind == Mutex::KIND {
-        return Mutex::valid(owner, count, attribute);
-    }
-    if kind == Event::KIND {
-        return Event::valid(count, attribute) & (owner == 0);
-    }
-    false
 }
 
+#[tactic(auto, unfolding(cells::specs::Validity::valid_fields, model::specs::Basics::all_of))]
 fn valid_objects(t: &[u64]) -> bool
     requires { length t.now ≡ table_length }
     ensures { result ≡ all_below (λ p. valid_fields (fields_at t.now p)) object_places }
@@ -70,7 +61,7 @@ pub fn is_event(t: &[u64], h: u64) -> bool
     ensures { result ≡ event_at t.now h }
 {
     let o = tables::named(t, h);
-    o.kind == Event::KIND
+    o.is(Kind::Event)
 }
 
 fn occupied_list(t: &[u64], list: &[u64]) -> bool
