@@ -11,7 +11,7 @@ use borrow.Author.Tests.{eq-eqb, ne_eqb}
 use Rattle.model.specs.Sizes.{object_places, wait_places, max_listed, word32}
 use Rattle.model.specs.Layout.{table_length, in_wait}
 use Rattle.cells.specs.Fold.{all_below}
-use Rattle.cells.specs.Objects.{Fields, fields, fields_at, named}
+use Rattle.cells.specs.Objects.{Fields, fields_at, named}
 use Rattle.cells.specs.Waits.{next_ticket, ticket_at, mode_at, owner_at, clock_at, count_at, alert_at, list_of, has}
 use Rattle.kinds.proofs.Laws.{joined_left, all_left, highest, has_32_bits}
 use Rattle.cells.specs.Validity.{valid_fields, occupied_at, event_at, too_few, occupied_list, repeated_list, proper_handles, proper_list, proper_alert, unused_zero, alone_at, header_tests, names_tests, valid_queued, valid_free, valid_place, valid_cells}
@@ -43,29 +43,6 @@ pub whole_valid : (t : List ℕ) {next : ℕ} {objects waits : Bool} → length 
     → joined_left (ltb 0 next) (objects ∷ waits ∷ []) ≡ valid_cells t
 unfolding valid_cells all_of
 whole_valid t l a b c = rw (a, b, c, eq-eqb (length t) table_length l) (all_left (ltb 0 (next_ticket t)) (all_below (λ p. valid_fields (fields_at t p)) object_places ∷ all_below (valid_place t) wait_places ∷ []))
-
--- an object of each kind, from what its kind answers
-module _ (x : Fields) where
-  pub empty_valid : x.kind ≡ 0 → joined_left (eqb x.count 0) (eqb x.owner 0 ∷ eqb x.attribute 0 ∷ []) ≡ valid_fields x
-  unfolding valid_fields
-  empty_valid e = rw e (all_left (eqb x.count 0) (eqb x.owner 0 ∷ eqb x.attribute 0 ∷ []))
-
-  module _ {v : Bool} where
-    pub semaphore_valid : x.kind ≡ 1 → v ≡ valid_fields (fields 1 x.count 0 x.attribute) → (v && eqb x.owner 0) ≡ valid_fields x
-    unfolding valid_fields all_of
-    semaphore_valid e q = rw (e, q) (simp (and_assoc, and-true))
-
-    pub mutex_valid : x.kind ≡ 2 → v ≡ valid_fields (fields 2 x.count x.owner x.attribute) → v ≡ valid_fields x
-    unfolding valid_fields
-    mutex_valid e q = rw e q
-
-    pub event_valid : x.kind ≡ 3 → v ≡ valid_fields (fields 3 x.count 0 x.attribute) → (v && eqb x.owner 0) ≡ valid_fields x
-    unfolding valid_fields all_of
-    event_valid e q = rw (e, q) (simp (and_assoc, and-true))
-
-  pub no_kind : (x.kind ≡ 0 → ⊥) → (x.kind ≡ 1 → ⊥) → (x.kind ≡ 2 → ⊥) → (x.kind ≡ 3 → ⊥) → false ≡ valid_fields x
-  unfolding valid_fields
-  no_kind a b c d = rw (ne_eqb x.kind 0 a, ne_eqb x.kind 1 b, ne_eqb x.kind 2 c, ne_eqb x.kind 3 d)
 
 -- by handle
 pub occupied_is : (t : List ℕ) (h : ℕ) (x : Fields) → x ≡ named t h → ltb 0 x.kind ≡ occupied_at t h

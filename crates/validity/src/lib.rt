@@ -1,104 +1,81 @@
 // The validity check (01: sound tables, else damaged): one pass over the objects, one over the waits.
 #![tactic(auto)]
 
-ghost use Rattle.std.specs.Prelude.{◌≡◌, true, ◌<◌, length};
+ghost use Rattle.std.specs.Prelude.{◌≡◌, true, ◌<◌};
 ghost use Rattle.model.specs.Basics.{all_of};
 ghost use Rattle.model.specs.Sizes.{object_places, wait_places};
-ghost use Rattle.model.specs.Layout.{table_length};
 ghost use Rattle.cells.specs.Fold.{all_below};
 ghost use Rattle.cells.specs.Objects.{fields_at};
 ghost use Rattle.cells.specs.Validity.{valid_fields, occupied_at, event_at, occupied_list, proper_handles, proper_list, proper_alert, alone_at, header_tests, names_tests, valid_place, valid_cells};
 ghost use Rattle.kinds.specs.Values.{cells_of};
 
-use kinds::{Event, Mutex, Object, Semaphore};
+use kinds::{Event, Kind, Mutex, Object, Semaphore};
+use tables::Cells;
 
 // Flags for the numbers below it, among them every handle.
 const MARKS: usize = 2 * tables::OBJECT_PLACES;
 
 // ---- objects
 
-// Each kind answers for its numbers; the cells that an object has no use for are 0.
+// Each kind answers for its numbers; the cells that an object has no use for are 0, in an empty place all.
+#[tactic(auto, unfolding(cells::specs::Validity::valid_fields, model::specs::Basics::all_of))]
 fn valid_object(o: Object) -> bool
     ensures { result ≡ valid_fields (cells_of o) }
 {
-    let kind = o.kind;
-    let count = o.count;
-    let owner = o.owner;
-    let attribute = o.attribute;
-    if kind == 0 {
-        return (count == 0) & (owner == 0) & (attribute == 0);
+    match Kind::try_from(o.kind) {
+        Ok(Kind::Semaphore) => Semaphore::valid(o.count, o.attribute) & (o.owner == 0),
+        Ok(Kind::Mutex) => Mutex::valid(o.owner, o.count, o.attribute),
+        Ok(Kind::Event) => Event::valid(o.count, o.attribute) & (o.owner == 0),
+        Err(_) => o == Object::EMPTY,
     }
-    if kind == Semaphore::KIND {
-        return Semaphore::valid(count, attribute) & (owner == 0);
-    }
-    if kind == Mutex::KIND {
-        return Mutex::valid(owner, count, attribute);
-    }
-    if kind == Event::KIND {
-        return Event::valid(count, attribute) & (owner == 0);
-    }
-    false
 }
 
-fn valid_objects(t: &[u64]) -> bool
-    requires { length t.now ≡ table_length }
+#[tactic(auto, unfolding(cells::specs::Validity::valid_fields, model::specs::Basics::all_of))]
+fn valid_objects(t: &Cells) -> bool
     ensures { result ≡ all_below (λ p. valid_fields (fields_at t.now p)) object_places }
 {
     let mut ok = true;
-    let mut p: usize = 0;
-    while p < tables::OBJECT_PLACES {
-        let o = tables::object_at(t, p);
-        let here = valid_object(o);
-        ok = ok & here;
-        p += 1;
+    for p in 0..tables::OBJECT_PLACES {
+        ok &= valid_object(tables::object_at(t, p));
     }
     ok
 }
 
 // ---- what a wait names
 
-pub fn occupied(t: &[u64], h: u64) -> bool
-    requires { length t.now ≡ table_length }
+pub fn occupied(t: &Cells, h: u64) -> bool
     ensures { result ≡ occupied_at t.now h }
 {
     let o = tables::named(t, h);
     0 < o.kind
 }
 
-pub fn is_event(t: &[u64], h: u64) -> bool
-    requires { length t.now ≡ table_length }
+pub fn is_event(t: &Cells, h: u64) -> bool
     ensures { result ≡ event_at t.now h }
 {
     let o = tables::named(t, h);
-    o.kind == Event::KIND
+    o.is(Kind::Event)
 }
 
-fn occupied_list(t: &[u64], list: &[u64]) -> bool
-    requires { length t.now ≡ table_length }
+fn occupied_list(t: &Cells, list: &[u64]) -> bool
     ensures { result ≡ occupied_list t.now list.now }
 {
     let mut ok = true;
-    let mut i: usize = 0;
-    while i < list.len() {
-        let h = list[i];
-        let here = occupied(t, h);
-        ok = ok & here;
-        i += 1;
+    for &h in list {
+        ok &= occupied(t, h);
     }
     ok
 }
 
 // The list's handles are occupied, and none of them is the alert or stands twice: one walk, with a flag for each number met.
-fn occupied_once(t: &[u64], mode: u64, list: &[u64], alert: u64) -> bool
-    requires { (length t.now ≡ table_length) × (mode ≡ 0 → ⊥) }
+fn occupied_once(t: &Cells, mode: u64, list: &[u64], alert: u64) -> bool
+    requires { mode ≡ 0 → ⊥ }
     ensures { proper_alert t.now alert ≡ true → result ≡ proper_handles t.now mode list.now alert }
 {
-    let mut seen: [u8; MARKS] = [0; MARKS];
+    let mut seen = [0u8; MARKS];
     let first = (alert % (MARKS as u64)) as usize;
     seen[first] = 1;
-    let mut i: usize = 0;
-    while i < list.len() {
-        let h = list[i];
+    for &h in list {
         let here = occupied(t, h);
         if !here {
             return false;
@@ -108,20 +85,18 @@ fn occupied_once(t: &[u64], mode: u64, list: &[u64], alert: u64) -> bool
             return false;
         }
         seen[flag] = 1;
-        i += 1;
     }
     true
 }
 
 // A list for its mode, where the alert is a proper one: for any of no handles too (1/13), for all of one at least (house).
-pub fn proper_list(t: &[u64], mode: u64, list: &[u64], alert: u64) -> bool
-    requires { length t.now ≡ table_length }
+pub fn proper_list(t: &Cells, mode: u64, list: &[u64], alert: u64) -> bool
     ensures { proper_alert t.now alert ≡ true → result ≡ proper_list t.now mode list.now alert }
 {
     if mode == 0 {
         return occupied_list(t, list);
     }
-    if list.len() == 0 {
+    if list.is_empty() {
         return false;
     }
     occupied_once(t, mode, list, alert)
@@ -130,57 +105,49 @@ pub fn proper_list(t: &[u64], mode: u64, list: &[u64], alert: u64) -> bool
 // ---- waits
 
 // No place before p has its ticket.
-fn alone(t: &[u64], p: usize) -> bool
-    requires { (p < wait_places) × (length t.now ≡ table_length) }
+fn alone(t: &Cells, p: usize) -> bool
+    requires { p < wait_places }
     ensures { result ≡ alone_at t.now p }
 {
     let ticket = tables::ticket_at(t, p);
     let mut ok = true;
-    let mut q: usize = 0;
-    while q < p {
-        let other = tables::ticket_at(t, q);
-        ok = ok & !(other == ticket);
-        q += 1;
+    for q in 0..p {
+        ok &= tables::ticket_at(t, q) != ticket;
     }
     ok
 }
 
 // A wait's owner can come to own a mutex.
-fn valid_header(t: &[u64], p: usize) -> bool
-    requires { (p < wait_places) × (length t.now ≡ table_length) }
+fn valid_header(t: &Cells, p: usize) -> bool
+    requires { p < wait_places }
     ensures { result ≡ all_of (header_tests t.now p) }
 {
-    let ticket = tables::ticket_at(t, p);
+    let w = tables::header_at(t, p);
     let next = tables::next_ticket(t);
     let alone = alone(t, p);
-    let mode = tables::mode_at(t, p);
-    let owner = tables::owner_at(t, p);
-    let clock = tables::clock_at(t, p);
-    let n = tables::listed_at(t, p);
-    (ticket < next)
+    (w.ticket < next)
         & alone
-        & (mode <= 1)
-        & (0 < owner)
-        & (owner <= Mutex::MAX_OWNER)
-        & (clock <= 1)
-        & (n <= (tables::MAX_LISTED as u64))
+        & (w.terms.mode <= 1)
+        & (0 < w.terms.owner)
+        & (w.terms.owner <= Mutex::MAX_OWNER)
+        & (w.terms.clock <= 1)
+        & (w.listed <= (tables::MAX_LISTED as u64))
 }
 
-fn valid_names(t: &[u64], p: usize) -> bool
-    requires { (p < wait_places) × (length t.now ≡ table_length) }
+fn valid_names(t: &Cells, p: usize) -> bool
+    requires { p < wait_places }
     ensures { result ≡ all_of (names_tests t.now p) }
 {
-    let mode = tables::mode_at(t, p);
+    let terms = tables::header_at(t, p).terms;
     let list = tables::list_of(t, p);
-    let alert = tables::alert_at(t, p);
-    let event = is_event(t, alert);
+    let event = is_event(t, terms.alert);
     let unused = tables::unused_zero(t, p);
-    let proper = proper_list(t, mode, list, alert);
-    proper & unused & ((alert == 0) | event)
+    let proper = proper_list(t, terms.mode, list, terms.alert);
+    proper & unused & ((terms.alert == 0) | event)
 }
 
-fn valid_place(t: &[u64], p: usize) -> bool
-    requires { (p < wait_places) × (length t.now ≡ table_length) }
+fn valid_place(t: &Cells, p: usize) -> bool
+    requires { p < wait_places }
     ensures { result ≡ valid_place t.now p }
 {
     let ticket = tables::ticket_at(t, p);
@@ -192,16 +159,12 @@ fn valid_place(t: &[u64], p: usize) -> bool
     header & names
 }
 
-fn valid_waits(t: &[u64]) -> bool
-    requires { length t.now ≡ table_length }
+fn valid_waits(t: &Cells) -> bool
     ensures { result ≡ all_below (valid_place t.now) wait_places }
 {
     let mut ok = true;
-    let mut p: usize = 0;
-    while p < tables::WAIT_PLACES {
-        let here = valid_place(t, p);
-        ok = ok & here;
-        p += 1;
+    for p in 0..tables::WAIT_PLACES {
+        ok &= valid_place(t, p);
     }
     ok
 }
@@ -210,9 +173,9 @@ fn valid_waits(t: &[u64]) -> bool
 pub fn valid(t: &[u64]) -> bool
     ensures { result ≡ valid_cells t.now }
 {
-    if t.len() != tables::TABLE_LENGTH {
+    let Some(t) = t.as_array() else {
         return false;
-    }
+    };
     let next = tables::next_ticket(t);
     let objects = valid_objects(t);
     let waits = valid_waits(t);

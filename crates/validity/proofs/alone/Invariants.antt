@@ -3,11 +3,7 @@ use lib.Dec.{eqb}
 use Rattle.cells.specs.Fold.{all_below}
 use mathlib.Core.Bool.{not}
 use mathlib.Core.Path.{◌≡◌}
-use Prim.Native.Nat.{◌≤◌, ◌-◌}
 use Rattle.validity.proofs.alone.Given as goal
 
 abbrev pub invariant-loop-q : goal.invariant-loop-q
-invariant-loop-q l = (l.q ≤ l.p) × (l.ok ≡ all_below (λ k. not (eqb (ticket_at l.t k) l.ticket)) l.q)
-
-abbrev pub decreases-loop-q : goal.decreases-loop-q
-decreases-loop-q l = l.p - l.q
+invariant-loop-q l = l.ok ≡ all_below (λ k. not (eqb (ticket_at l.t k) l.ticket)) l.q
