@@ -1,11 +1,12 @@
 -- What the walk's definitions come to on each way through the code.
 use Prim.Native.Nat.{ℕ, suc, ◌+◌, ◌-◌, ◌<◌, ◌≤◌}
 use native.Mathlib.Omega.{arith}
+use native.Mathlib.Nat.{le_refl}
 use mathlib.Core.Path.{◌≡◌, refl, sym, ap, ◌∙◌}
 use mathlib.Core.Bool.{Bool, true, false, not, cond}
 use mathlib.Core.List.{List}
 use lib.Dec.{ltb}
-use borrow.Author.Tests.{lt-ltb, le-ltb}
+use borrow.Author.Tests.{lt-ltb}
 use Rattle.model.specs.Sizes.{wait_places}
 use Rattle.model.proofs.Logic.{by_bool, clash, not_true, not_false}
 use Rattle.cells.specs.Fold.{all_below}
@@ -16,15 +17,9 @@ use Rattle.cells.specs.Attempt.{signaled_at, Tried, look_any, look_all, take_one
 use Rattle.attempt.proofs.Laws.{SignaledIn, all_stop, all_on, all_end, any_took, any_left, all_took, all_left, list_any, list_all, alert_same, any_same}
 use Rattle.cells.specs.Waits.{ticket_at, mode_at, owner_at, count_at, alert_at, list_of, next_wait, names_at, clear_wait, put_record}
 use Rattle.cells.specs.Walk.{Walked, walked, Concern, report, settled, settle, visit_cells, walk_cells}
-use Rattle.walk.specs.declared.By.{By}
-use Rattle.walk.specs.declared.By.TheVariants.{Any, Alert, All}
-use Rattle.walk.specs.Values.{try_by}
 
 -- the attempt of the wait at place p
 module _ (t : List ℕ) (p : ℕ) where
-  pub looked_at : {asking i : ℕ} {list : List ℕ} → asking ≡ owner_at t p → list ≡ list_of t p → i ≡ look_any t asking list → i ≡ look_any t (owner_at t p) (list_of t p)
-  looked_at a b e = e ∙ rw (a, b)
-
   pub taken_at : (copy : List ℕ) {asking n : ℕ} {x : Tried} → asking ≡ owner_at t p → n ≡ count_at t p → take (count_at t p) copy ≡ list_of t p → x ≡ take_all t asking (take n copy) → x ≡ take_all t (owner_at t p) (list_of t p)
   taken_at copy a b c e = e ∙ rw (a, b, c)
 
@@ -32,35 +27,34 @@ module _ (t : List ℕ) (p : ℕ) where
     pub alerted_at : {asking alert n : ℕ} {x : Tried} → asking ≡ owner_at t p → alert ≡ alert_at t p → n ≡ count_at t p → x ≡ by_alert t asking alert n → x ≡ by_alert t (owner_at t p) (alert_at t p) (length (list_of t p))
     alerted_at a b c e = e ∙ rw (a, b, c, list_length t l p h)
 
-    module _ {i n : ℕ} (e : i ≡ look_any t (owner_at t p) (list_of t p)) (c : n ≡ count_at t p) {x : Tried} where
-      pub any_alerted : n ≤ i → x ≡ by_alert t (owner_at t p) (alert_at t p) (length (list_of t p)) → x ≡ try_any t (owner_at t p) (alert_at t p) (list_of t p)
-      any_alerted b y = y ∙ any_left t (owner_at t p) (alert_at t p) (list_of t p) e (let z = list_length t l p h in omega arith)
+    pub any_alerted : {asking : ℕ} {list : List ℕ} {x : Tried} → asking ≡ owner_at t p → list ≡ list_of t p → length list ≡ look_any t asking list
+        → x ≡ by_alert t (owner_at t p) (alert_at t p) (length (list_of t p)) → x ≡ try_any t (owner_at t p) (alert_at t p) (list_of t p)
+    any_alerted {asking} {list} a b e y = let q : length (list_of t p) ≡ look_any t (owner_at t p) (list_of t p) = rw (a, b) at e in y ∙ any_left t (owner_at t p) (alert_at t p) (list_of t p) q (le_refl _)
 
-      pub any_taken : {asking handle : ℕ} → i < n → asking ≡ owner_at t p → handle ≡ get_or (list_of t p) i 0 → x ≡ take_one t asking handle i → x ≡ try_any t (owner_at t p) (alert_at t p) (list_of t p)
-      any_taken b a q y = y ∙ rw (a, q) (any_took t (owner_at t p) (alert_at t p) (list_of t p) e (let z = list_length t l p h in omega arith))
+    pub any_taken : {asking i : ℕ} {list : List ℕ} {x : Tried} → asking ≡ owner_at t p → list ≡ list_of t p → i ≡ look_any t asking list → i < length list
+        → x ≡ take_one t asking (get_or list i 0) i → x ≡ try_any t (owner_at t p) (alert_at t p) (list_of t p)
+    any_taken {asking} {i} {list} a b e l y = y ∙ any_took t asking (alert_at t p) list e l ∙ rw (a, b)
 
 -- a wait that was tried
 module _ (r : Tried) (p k ticket : ℕ) (wake : List ℕ) where
-  pub settled_not : not r.served ≡ true → walked k r.tables wake ≡ settled r p k ticket wake
-  settled_not e = rw (not_true r.served e)
+  pub settled_left : {u v : List ℕ} → r.served ≡ true → u ≡ clear_wait r.tables p → v ≡ put_record wake k ticket r.answer r.index → walked (k + 1) u v ≡ settled r p k ticket wake
+  settled_left e a b = rw (e, a, b)
 
-  pub settled_left : {u v : List ℕ} → not r.served ≡ false → u ≡ clear_wait r.tables p → v ≡ put_record wake k ticket r.answer r.index → walked (k + 1) u v ≡ settled r p k ticket wake
-  settled_left e a b = rw (not_false r.served e, a, b)
-
--- an attempt that fails alters nothing
-by_same : (t : List ℕ) (p : ℕ) (by : By) → (try_by by t p).served ≡ false → (try_by by t p).tables ≡ t
-by_same t p Any e = any_same t (owner_at t p) (alert_at t p) (list_of t p) e
-by_same t p Alert e = alert_same t (owner_at t p) (alert_at t p) (length (list_of t p)) e
-by_same t p All e = clash refl e
-
--- settling, after the attempt and by the ticket read before it
+-- settling, after an attempt that alters nothing where it fails, and by the ticket read before it
 module _ (t wake : List ℕ) (p k : ℕ) where
   settle_is : (r : Tried) {x : Tried} {ticket : ℕ} {y : Walked} → (r.served ≡ false → r.tables ≡ t) → ticket ≡ ticket_at t p → x ≡ r → y ≡ settled x p k ticket wake → y ≡ settle r p (walked k t wake)
   unfolding settle report
   settle_is r m a e y = y ∙ rw (e, a) (by_bool r.served (λ b. rw b) (λ n. rw (n, m n)))
 
-  pub settle_by : (by : By) {x : Tried} {ticket : ℕ} {y : Walked} → ticket ≡ ticket_at t p → x ≡ try_by by t p → y ≡ settled x p k ticket wake → y ≡ settle (try_by by t p) p (walked k t wake)
-  settle_by by a e = settle_is (try_by by t p) (by_same t p by) a e
+  module _ {x : Tried} {ticket : ℕ} {y : Walked} (a : ticket ≡ ticket_at t p) where
+    pub settle_any : x ≡ any_at t p → y ≡ settled x p k ticket wake → y ≡ settle (any_at t p) p (walked k t wake)
+    settle_any = settle_is (any_at t p) (any_same t (owner_at t p) (alert_at t p) (list_of t p)) a
+
+    pub settle_alert : x ≡ alert_of t p → y ≡ settled x p k ticket wake → y ≡ settle (alert_of t p) p (walked k t wake)
+    settle_alert = settle_is (alert_of t p) (alert_same t (owner_at t p) (alert_at t p) (length (list_of t p))) a
+
+    pub settle_all : x ≡ all_at t p → y ≡ settled x p k ticket wake → y ≡ settle (all_at t p) p (walked k t wake)
+    settle_all = settle_is (all_at t p) (λ e. clash refl e) a
 
 counted : (b : Bool) (k : ℕ) (t u wake v : List ℕ) → (cond b (walked (k + 1) u v) (walked k t wake)).count ≤ k + 1
 counted true k t u wake v = omega arith
@@ -100,8 +94,8 @@ module _ (h turn last k : ℕ) (t wake : List ℕ) {y : Walked} (d : y ≡ walk_
     unfolding walk_cells
     walk_turn = let e : wait_places - turn ≡ suc (wait_places - (turn + 1)) = omega arith in d ∙ rw (e, sym q)
 
-    pub walk_none : wait_places ≤ p → walked k t wake ≡ y
-    walk_none b = sym (walk_turn ∙ rw (le-ltb p wait_places b))
+    pub walk_none : wait_places ≡ p → walked k t wake ≡ y
+    walk_none b = sym (walk_turn ∙ rw (sym b))
 
     module _ (b : p < wait_places) {ticket : ℕ} (a : ticket ≡ ticket_at t p) {named : Bool} (n : named ≡ names_at t h p) where
       walk_on : y ≡ walk_cells (wait_places - (turn + 1)) (Names h) ticket (visit_cells (Names h) p (walked k t wake))

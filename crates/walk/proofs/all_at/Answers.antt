@@ -12,4 +12,4 @@ pub slice_bounds-take_list-end : goal.slice_bounds-take_list-end
 slice_bounds-take_list-end c = sym (length-take-le c.count_at-n.result c.copy_list-list.result (omega (arith, count_le c.args.t.now c.args.p, c.count_at-n.ensures, c.copy_list-list.ensures.0)))
 
 pub returns : goal.returns
-returns c = let a = c.args in taken_at a.t.now a.p c.copy_list-list.result c.owner_at-asking.ensures c.count_at-n.ensures c.copy_list-list.ensures.1 c.take_list.ensures
+returns c = let a = c.args in taken_at a.t.now a.p c.copy_list-list.result c.header_at-w.ensures.owner c.count_at-n.ensures c.copy_list-list.ensures.1 c.take_list.ensures

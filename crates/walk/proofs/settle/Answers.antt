@@ -1,9 +1,10 @@
-use Rattle.walk.proofs.Laws.{settled_not, settled_left}
-use Rattle.attempt.specs.Values.{tried_by}
+use mathlib.Core.Path.{refl, ap, ◌∙◌}
+use Prim.Native.Nat.{ℕ}
+use Rattle.cells.specs.Attempt.{took}
+use Rattle.cells.specs.Waits.{put_record}
+use Rattle.walk.proofs.Laws.{settled_left}
 use Rattle.walk.proofs.settle.Goals as goal
 
-pub returns-then-not-a : goal.returns-then-not-a
-returns-then-not-a c = let a = c.args in settled_not (tried_by a.a a.t.now) a.p a.told a.ticket a.wake.now c.if-not-a.true
-
 pub returns : goal.returns
-returns c = let a = c.args in settled_left (tried_by a.a a.t.now) a.p a.told a.ticket a.wake.now c.if-not-a.false c.leave.ensures.0 c.leave.ensures.1
+returns c = let a = c.args in let s = c.in-Some.a in rw c.in-Some.is (settled_left (took s.abandoned s.index a.t.now) a.p a.told a.ticket a.wake.now refl c.leave.ensures.0
+    (c.leave.ensures.1 ∙ ap (λ (n : ℕ). put_record a.wake.now a.told a.ticket n s.index) (c.from.ensures ∙ c.answer.ensures)))
