@@ -2,200 +2,130 @@
 // have 32 bits.
 #![tactic(auto)]
 
-ghost use Rattle.std.specs.Prelude.{◌≡◌, [], ◌<◌, length, true};
+ghost use Rattle.std.specs.Prelude.{◌≡◌, ◌<◌, true, false};
 ghost use Rattle.model.specs.Sizes.{wait_places};
 ghost use Rattle.model.specs.Calls.{nothing_lent, a_semaphore, a_mutex, an_event};
-ghost use Rattle.model.specs.Layout.{table_length};
 ghost use Rattle.cells.specs.Fold.{some_below};
 ghost use Rattle.cells.specs.Validity.{valid_cells};
-ghost use Rattle.cells.specs.Calls.{answered, create_cells, busy_at, close_cells, read_pair, read_cells, reset_cells, cancel_cells};
+ghost use Rattle.cells.specs.Calls.{create_cells, busy_at, close_cells, read_pair, read_cells, reset_cells, cancel_cells};
+ghost use Rattle.kinds.specs.Kinds.{cell_of};
 ghost use Rattle.kinds.specs.Values.{cells_of};
-ghost use Rattle.calls.specs.Values.{left_by};
+ghost use Rattle.calls.specs.Values.{left_by, done, number, numbers, mutex_numbers, answer};
 
-use kinds::{Event, Mutex, Object, Semaphore};
+use kinds::{Kind, Object, Refusal};
+use tables::Cells;
 
-// An answer and the number with it, or two numbers; 0 where no rule gives one.
-#[derive(Clone, Copy)]
-pub struct Numbered {
-    pub answer: u32,
-    pub number: u32,
-}
+// The answer of a wait that was cancelled.
+const INTERRUPTED: u32 = 6;
 
-#[derive(Clone, Copy)]
-pub struct Numbers {
-    pub answer: u32,
-    pub first: u32,
-    pub second: u32,
-}
-
-// A new object at the lowest empty place; `bad` is true where its numbers are refused.
-pub fn create(t: &mut [u64], bad: bool, o: Object) -> Numbered
-    requires { length t.old ≡ table_length }
-    ensures { answered result.answer result.number 0 t.new nothing_lent ≡ create_cells bad (cells_of o) t.old nothing_lent }
+// A new object at the lowest empty place; its handle.
+#[tactic(auto, unfolding(cells::specs::Calls::create_cells))]
+pub fn create(t: &mut Cells, o: Object) -> Result<u32, Refusal>
+    ensures { left_by number result t.new ≡ create_cells false (cells_of o) t.old nothing_lent }
 {
-    if bad {
-        return Numbered {
-            answer: 1,
-            number: 0,
-        };
-    }
-    let p = tables::empty_object(t);
-    if p < tables::OBJECT_PLACES {
-        tables::put_object(t, p, o);
-        return Numbered {
-            answer: 0,
-            number: (p + 1) as u32,
-        };
-    }
-    Numbered {
-        answer: 7,
-        number: 0,
-    }
+    let p = tables::empty_object(t).ok_or(Refusal::NoRoom)?;
+    tables::put_object(t, p, o);
+    Ok((p + 1) as u32)
 }
 
-// The wait at place p, if one is queued there, names h.
-fn busy_at(t: &[u64], h: u64, p: usize) -> bool
-    requires { (p < wait_places) × (length t.now ≡ table_length) }
+// A wait is queued at place p, and names h.
+#[tactic(auto, unfolding(cells::specs::Calls::busy_at))]
+fn busy_at(t: &Cells, h: u64, p: usize) -> bool
+    requires { p < wait_places }
     ensures { result ≡ busy_at t.now h p }
 {
-    let ticket = tables::ticket_at(t, p);
-    if ticket == 0 {
-        return false;
-    }
-    tables::names_at(t, h, p)
+    0 < tables::ticket_at(t, p) && tables::names_at(t, h, p)
 }
 
-fn busy(t: &[u64], h: u64) -> bool
-    requires { length t.now ≡ table_length }
+fn busy(t: &Cells, h: u64) -> bool
     ensures { result ≡ some_below (busy_at t.now h) wait_places }
 {
     let mut found = false;
-    let mut p: usize = 0;
-    while p < tables::WAIT_PLACES {
-        let here = busy_at(t, h, p);
-        found = found | here;
-        p += 1;
+    for p in 0..tables::WAIT_PLACES {
+        found |= busy_at(t, h, p);
     }
     found
 }
 
-pub fn close(t: &mut [u64], h: u64) -> u32
-    requires { length t.old ≡ table_length }
-    ensures { answered result 0 0 t.new nothing_lent ≡ close_cells h t.old nothing_lent }
+#[tactic(auto, unfolding(cells::specs::Calls::close_cells))]
+pub fn close(t: &mut Cells, h: u64) -> Result<(), Refusal>
+    ensures { left_by done result t.new ≡ close_cells h t.old nothing_lent }
 {
-    let empty = !validity::occupied(t, h);
-    if empty {
-        return 1;
+    if !validity::occupied(t, h) {
+        return Err(Refusal::Invalid);
     }
-    let named = busy(t, h);
-    if named {
-        return 10;
+    if busy(t, h) {
+        return Err(Refusal::Busy);
     }
-    tables::store(
-        t,
-        h,
-        Object {
-            kind: 0,
-            count: 0,
-            owner: 0,
-            attribute: 0,
-        },
-    );
-    0
+    tables::store(t, h, Object::EMPTY);
+    Ok(())
 }
 
 // The count and the attribute of an object of this kind.
-fn read_pair(t: &[u64], h: u64, kind: u64) -> Numbers
-    requires { (length t.now ≡ table_length) × (valid_cells t.now ≡ true) }
-    ensures { left_by result t.now ≡ read_pair kind h t.now nothing_lent }
+fn read_pair(t: &Cells, h: u64, kind: Kind) -> Result<(u32, u32), Refusal>
+    requires { valid_cells t.now ≡ true }
+    ensures { left_by numbers result t.now ≡ read_pair (cell_of kind) h t.now nothing_lent }
 {
     let o = tables::named(t, h);
-    if o.kind == kind {
-        return Numbers {
-            answer: 0,
-            first: o.count as u32,
-            second: o.attribute as u32,
-        };
+    if !o.is(kind) {
+        return Err(Refusal::Invalid);
     }
-    Numbers {
-        answer: 1,
-        first: 0,
-        second: 0,
-    }
+    Ok((o.count as u32, o.attribute as u32))
 }
 
-pub fn read_semaphore(t: &[u64], h: u64) -> Numbers
-    requires { (length t.now ≡ table_length) × (valid_cells t.now ≡ true) }
-    ensures { left_by result t.now ≡ read_cells a_semaphore h t.now nothing_lent }
+#[tactic(auto, unfolding(cells::specs::Calls::read_cells))]
+pub fn read_semaphore(t: &Cells, h: u64) -> Result<(u32, u32), Refusal>
+    requires { valid_cells t.now ≡ true }
+    ensures { left_by numbers result t.now ≡ read_cells a_semaphore h t.now nothing_lent }
 {
-    read_pair(t, h, Semaphore::KIND)
+    read_pair(t, h, Kind::Semaphore)
 }
 
-pub fn read_event(t: &[u64], h: u64) -> Numbers
-    requires { (length t.now ≡ table_length) × (valid_cells t.now ≡ true) }
-    ensures { left_by result t.now ≡ read_cells an_event h t.now nothing_lent }
+#[tactic(auto, unfolding(cells::specs::Calls::read_cells))]
+pub fn read_event(t: &Cells, h: u64) -> Result<(u32, u32), Refusal>
+    requires { valid_cells t.now ≡ true }
+    ensures { left_by numbers result t.now ≡ read_cells an_event h t.now nothing_lent }
 {
-    read_pair(t, h, Event::KIND)
+    read_pair(t, h, Kind::Event)
 }
 
-// An abandoned mutex is told by its answer alone.
-pub fn read_mutex(t: &[u64], h: u64) -> Numbers
-    requires { (length t.now ≡ table_length) × (valid_cells t.now ≡ true) }
-    ensures { left_by result t.now ≡ read_cells a_mutex h t.now nothing_lent }
+// Owner and count; nothing of an abandoned mutex, which its answer tells.
+#[tactic(auto, unfolding(cells::specs::Calls::read_cells))]
+pub fn read_mutex(t: &Cells, h: u64) -> Result<Option<(u32, u32)>, Refusal>
+    requires { valid_cells t.now ≡ true }
+    ensures { left_by mutex_numbers result t.now ≡ read_cells a_mutex h t.now nothing_lent }
 {
     let o = tables::named(t, h);
-    if o.kind != Mutex::KIND {
-        return Numbers {
-            answer: 1,
-            first: 0,
-            second: 0,
-        };
+    if !o.is(Kind::Mutex) {
+        return Err(Refusal::Invalid);
     }
     if 0 < o.attribute {
-        return Numbers {
-            answer: 4,
-            first: 0,
-            second: 0,
-        };
+        return Ok(None);
     }
-    Numbers {
-        answer: 0,
-        first: o.owner as u32,
-        second: o.count as u32,
-    }
+    Ok(Some((o.owner as u32, o.count as u32)))
 }
 
-pub fn reset(t: &mut [u64], h: u64) -> Numbered
-    requires { (length t.old ≡ table_length) × (valid_cells t.old ≡ true) }
-    ensures { answered result.answer result.number 0 t.new nothing_lent ≡ reset_cells h t.old nothing_lent }
+// An event is cleared; its former state.
+#[tactic(auto, unfolding(cells::specs::Calls::reset_cells))]
+pub fn reset(t: &mut Cells, h: u64) -> Result<u32, Refusal>
+    requires { valid_cells t.old ≡ true }
+    ensures { left_by number result t.new ≡ reset_cells h t.old nothing_lent }
 {
     let o = tables::named(t, h);
-    let previous = o.count as u32;
-    let c = o.switch(0);
-    if c.answer != 0 {
-        return Numbered {
-            answer: c.answer,
-            number: 0,
-        };
-    }
-    tables::store(t, h, c.next);
-    Numbered {
-        answer: 0,
-        number: previous,
-    }
+    let cleared = o.switch(0)?;
+    tables::store(t, h, cleared);
+    Ok(o.count as u32)
 }
 
-pub fn cancel(t: &mut [u64], ticket: u64) -> u32
-    requires { length t.old ≡ table_length }
-    ensures { answered result 0 0 t.new nothing_lent ≡ cancel_cells ticket t.old nothing_lent }
+// The answer that its waiter gets.
+#[tactic(auto, unfolding(cells::specs::Calls::cancel_cells))]
+pub fn cancel(t: &mut Cells, ticket: u64) -> Result<u32, Refusal>
+    ensures { left_by answer result t.new ≡ cancel_cells ticket t.old nothing_lent }
 {
     if ticket == 0 {
-        return 1;
+        return Err(Refusal::Invalid);
     }
-    let p = tables::ticket_place(t, ticket);
-    if p < tables::WAIT_PLACES {
-        tables::clear_wait(t, p);
-        return 6;
-    }
-    1
+    let p = tables::ticket_place(t, ticket).ok_or(Refusal::Invalid)?;
+    tables::clear_wait(t, p);
+    Ok(INTERRUPTED)
 }

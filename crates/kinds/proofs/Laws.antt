@@ -17,7 +17,9 @@ use Rattle.std.specs.Bool.{then_some}
 use Rattle.std.specs.Option.{ok_or}
 use Rattle.kinds.specs.Values.{cells_of, changed_by, creation}
 use Rattle.kinds.specs.declared.object.Object.{Object}
-use Rattle.kinds.specs.declared.refusal.Refusal.TheVariants.{Invalid}
+use Rattle.kinds.specs.Refusals.{number_of}
+use Rattle.kinds.specs.declared.refusal.Refusal.{Refusal}
+use Rattle.kinds.specs.declared.refusal.Refusal.TheVariants.{Invalid, NotOwner, Overflow, NoRoom, TicketsSpent, Corrupt, Busy, ListShort, NotASnapshot}
 
 -- a test and its converse
 not_more : (a b : ℕ) → leb a b ≡ not (ltb b a)
@@ -79,3 +81,15 @@ made false o e = ap (changed 0) e
 pub created : (k : Kind) (x y : ℕ) {valid : Bool} {o : Object} → x < word32 → y < word32 → valid ≡ valid_fields (new_fields k x y) → cells_of o ≡ new_fields k x y
     → changed_by no_fields (ok_or (then_some valid o) Invalid) ≡ creation k x y
 created k x y {valid} {o} hx hy v e = let b : valid ≡ not (bad_new k x y) = v ∙ new_valid k x y hx hy in rw b (made (bad_new k x y) o e)
+
+-- no refusal's number is that of success
+pub refuses : (r : Refusal) → eqb (number_of r) 0 ≡ false
+refuses Invalid = refl
+refuses NotOwner = refl
+refuses Overflow = refl
+refuses NoRoom = refl
+refuses TicketsSpent = refl
+refuses Corrupt = refl
+refuses Busy = refl
+refuses ListShort = refl
+refuses NotASnapshot = refl

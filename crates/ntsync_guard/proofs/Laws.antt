@@ -13,6 +13,7 @@ use Rattle.model.specs.Steps.{table_step, Seen, sees, seen}
 use Rattle.model.proofs.Logic.{not_true, not_false}
 use Rattle.cells.specs.Validity.{valid_cells}
 use Rattle.cells.specs.Calls.{Result, refused_with, on_cells, call_cells, guarded}
+use Rattle.validity.proofs.Laws.{whole_short}
 use Rattle.refine.proofs.Validity.{Words, valid_length}
 use Rattle.refine.proofs.Refinement.{call_means}
 
@@ -33,6 +34,10 @@ module _ (t : List ℕ) {v : Bool} (q : v ≡ valid_cells t) where
 
   pub guarded_in : (l : Lent) {r s : Result} → not v ≡ false → s ≡ r → s ≡ guarded l t r
   guarded_in l {r} {s} n e = rw (found_valid n) e
+
+-- tables of another length are corrupt
+pub guarded_short : (t : List ℕ) (l : Lent) (r : Result) → (length t ≡ table_length → ⊥) → refused_with 9 t l ≡ guarded l t r
+guarded_short t l r n = rw (sym (whole_short t n))
 
 -- every call: a result by the cells' definition is what a host sees
 pub means : (op : Operation) (t : List ℕ) (l : Lent) {r : Result} → Words t → r ≡ guarded l t (on_cells op t l) → seen (table_step t (asks op l)) ≡ shown r

@@ -1,8 +1,8 @@
 use Rattle.ntsync_objects.proofs.Laws.{made, not_made}
 use Rattle.ntsync_objects.proofs.init.Goals as goal
 
-pub returns-then-tables-ne-TABLE_LENGTH : goal.returns-then-tables-ne-TABLE_LENGTH
-returns-then-tables-ne-TABLE_LENGTH c = not_made c.args.tables.now c.if-tables-ne-TABLE_LENGTH.true
+pub returns-in_default : goal.returns-in_default
+returns-in_default c = rw c.from.ensures (not_made c.args.tables.now c.in_default.ensures.cases)
 
 pub returns : goal.returns
-returns c = rw c.make.ensures (made c.args.tables.now c.if-tables-ne-TABLE_LENGTH.false)
+returns c = let h = c.in-Some.ensures.cases in rw (c.make.ensures, h.same) (made c.args.tables.now h.long)

@@ -1,6 +1,0 @@
-use Rattle.cells.specs.Calls.{read_cells}
-use Rattle.calls.proofs.read_event.Goals as goal
-
-pub returns : goal.returns
-unfolding read_cells
-returns c = c.read_pair.ensures
