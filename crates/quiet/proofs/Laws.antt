@@ -5,16 +5,19 @@ use mathlib.Core.List.{List}
 use Prim.Native.Nat.{ℕ}
 use native.Mathlib.Omega.{arith}
 use lib.ListN.{length}
-use lib.Dec.{ltb}
-use borrow.Author.Tests.{eq-eqb, ne_eqb, lt-ltb}
+use borrow.Author.Tests.{eq-eqb, ne_eqb, lt-ltb, le-ltb}
+use native.Mathlib.Nat.{le_refl}
+use Rattle.std.specs.Prelude.{Option, Some, None, is_some}
+use Rattle.tables.specs.Found.{Found}
 use Rattle.cells.specs.Waits.{ticket_at, mode_at, owner_at, alert_at, list_of}
 use Rattle.cells.specs.Attempt.{signaled_at, look_any, look_all, list_serves, servable_at, ready_at}
 
 -- by the list
 module _ (t : List ℕ) (mode asking : ℕ) (list : List ℕ) where
-  pub any_serves : mode ≡ 0 → ltb (look_any t asking list) (length list) ≡ list_serves t mode asking list
+  pub any_serves : mode ≡ 0 → (found : Option ℕ) → Found found (look_any t asking list) (length list) → is_some found ≡ list_serves t mode asking list
   unfolding list_serves
-  any_serves e = rw (eq-eqb mode 0 e)
+  any_serves e (Some i) q = rw (eq-eqb mode 0 e, sym q.0, lt-ltb i (length list) q.1)
+  any_serves e None q = rw (eq-eqb mode 0 e, sym q, le-ltb (length list) (length list) (le_refl _))
 
   pub all_serves : (mode ≡ 0 → ⊥) → look_all t asking list ≡ list_serves t mode asking list
   unfolding list_serves

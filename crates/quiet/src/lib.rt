@@ -1,42 +1,39 @@
 // Whether no queued wait could be served. Nothing is taken.
 #![tactic(auto)]
 
-ghost use Rattle.std.specs.Prelude.{◌≡◌, not, ◌<◌, length};
+ghost use Rattle.std.specs.Prelude.{◌≡◌, not, ◌<◌};
 ghost use Rattle.model.specs.Sizes.{wait_places};
-ghost use Rattle.model.specs.Layout.{table_length};
 ghost use Rattle.cells.specs.Attempt.{list_serves, servable_at, ready_at, some_servable};
 
+use tables::Cells;
+
 // By its list. Mode 0 is any.
-fn list_serves(t: &[u64], mode: u64, asking: u64, list: &[u64]) -> bool
-    requires { length t.now ≡ table_length }
+fn list_serves(t: &Cells, mode: u64, asking: u64, list: &[u64]) -> bool
     ensures { result ≡ list_serves t.now mode asking list.now }
 {
     if mode == 0 {
-        let i = attempt::look_any(t, asking, list);
-        return i < list.len();
+        return attempt::look_any(t, asking, list).is_some();
     }
     attempt::look_all(t, asking, list)
 }
 
 // By its list or its alert.
-fn servable(t: &[u64], p: usize) -> bool
-    requires { (p < wait_places) × (length t.now ≡ table_length) }
+fn servable(t: &Cells, p: usize) -> bool
+    requires { p < wait_places }
     ensures { result ≡ servable_at t.now p }
 {
-    let mode = tables::mode_at(t, p);
-    let asking = tables::owner_at(t, p);
+    let terms = tables::header_at(t, p).terms;
     let list = tables::list_of(t, p);
-    let here = list_serves(t, mode, asking, list);
+    let here = list_serves(t, terms.mode, terms.owner, list);
     if here {
         return true;
     }
-    let alert = tables::alert_at(t, p);
-    attempt::signaled(t, asking, alert)
+    attempt::signaled(t, terms.owner, terms.alert)
 }
 
 // A wait is queued at place p and could be served.
-fn ready_at(t: &[u64], p: usize) -> bool
-    requires { (p < wait_places) × (length t.now ≡ table_length) }
+fn ready_at(t: &Cells, p: usize) -> bool
+    requires { p < wait_places }
     ensures { result ≡ ready_at t.now p }
 {
     let ticket = tables::ticket_at(t, p);
@@ -46,16 +43,14 @@ fn ready_at(t: &[u64], p: usize) -> bool
     servable(t, p)
 }
 
-pub fn quiet(t: &[u64]) -> bool
-    requires { length t.now ≡ table_length }
+pub fn quiet(t: &Cells) -> bool
     ensures { result ≡ not (some_servable t.now) }
 {
-    let mut ready = false;
-    let mut p: usize = 0;
-    while p < tables::WAIT_PLACES {
+    for p in 0..tables::WAIT_PLACES {
         let here = ready_at(t, p);
-        ready = ready | here;
-        p += 1;
+        if here {
+            return false;
+        }
     }
-    !ready
+    true
 }

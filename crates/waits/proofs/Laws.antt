@@ -1,13 +1,14 @@
 -- What a wait's definitions come to on each way through the code.
 use Prim.Native.Nat.{ℕ, ◌+◌, ◌<◌, ◌≤◌}
 use mathlib.Core.Path.{◌≡◌, refl, sym, ap, ◌∙◌}
-use mathlib.Core.Bool.{Bool, true, false, not, ◌&&◌, ◌||◌, or_assoc, or-true, or-false}
+use mathlib.Core.Bool.{Bool, true, false, not, cond, ◌&&◌, ◌||◌, or_assoc, or-true, or-false}
+use Rattle.std.specs.Prelude.{Some, None}
 use mathlib.Core.List.{List, [], ◌∷◌}
 use native.Mathlib.Omega.{arith}
 use native.Mathlib.Nat.{le_trans}
 use lib.ListN.{length}
 use lib.Dec.{eqb, ltb, leb}
-use borrow.Author.Tests.{lt-ltb, le-ltb, le-leb, lt-leb, ltb-false}
+use borrow.Author.Tests.{lt-ltb, le-leb, lt-leb, ltb-false}
 use Rattle.model.specs.Sizes.{wait_places, max_listed, word64, never}
 use Rattle.model.specs.Basics.{any_of}
 use Rattle.model.specs.Calls.{Lent, time_up}
@@ -15,7 +16,11 @@ use Rattle.model.proofs.Logic.{by_bool, clash, not_twice, fault_free}
 use Rattle.cells.specs.Waits.{next_ticket, has}
 use Rattle.cells.specs.Validity.{event_at, too_few, occupied_list, repeated_list, proper_handles, proper_list, proper_alert}
 use Rattle.cells.specs.Attempt.{Tried, try_list}
+use Rattle.attempt.specs.declared.Served.{Served}
+use Rattle.attempt.specs.Values.{tried_by}
 use Rattle.attempt.proofs.Laws.{missed_same, index_le}
+use Rattle.tables.specs.declared.Terms.{Terms}
+use Rattle.tables.specs.Found.{Found}
 use Rattle.cells.specs.Calls.{Result, answered, refused_with, bad_wait, ticket_place, queue_cells, later_cells, act_cells, wait_on_cells}
 
 -- tests joined one after another
@@ -53,46 +58,56 @@ bad_is t mode list asking flags pad alert {proper} e q =
     (λ n. rw (n, sixth false l (not proper) a b c false, sixth (too_few mode (length list)) l (not (occupied_list t list)) a b c ((not (eqb mode 0) && D) || false))))
 
 -- after a failed attempt
-module _ (t : List ℕ) (mode : ℕ) (list : List ℕ) (asking flags alert timeout time : ℕ) (l : Lent) where
-  module _ {up : Bool} (u : up ≡ time_up timeout time) where
-    pub later_up : up ≡ true → answered 5 0 0 t l ≡ later_cells mode list asking flags alert timeout time t l
+module _ (t : List ℕ) (w : Terms) (list : List ℕ) (time : ℕ) (l : Lent) where
+  abbrev pub Later : Result → Type 0
+  Later r = r ≡ later_cells w.mode list w.owner w.clock w.alert w.timeout time t l
+
+  module _ {up : Bool} (u : up ≡ time_up w.timeout time) where
+    pub later_up : up ≡ true → Later (answered 5 0 0 t l)
     unfolding later_cells
     later_up y = rw (sym u, y)
 
-    module _ (n : up ≡ false) {p : ℕ} (q : p ≡ ticket_place t 0) where
-      pub later_full : wait_places ≤ p → refused_with 7 t l ≡ later_cells mode list asking flags alert timeout time t l
+    module _ (n : up ≡ false) where
+      pub later_full : Found None (ticket_place t 0) wait_places → Later (refused_with 7 t l)
       unfolding later_cells
-      later_full h = rw (sym u, n, sym q, le-ltb p wait_places h)
+      later_full q = rw (sym u, n, sym q)
 
-      pub later_spent : {ticket : ℕ} → p < wait_places → ticket ≡ next_ticket t → ticket ≡ never → refused_with 8 t l ≡ later_cells mode list asking flags alert timeout time t l
-      unfolding later_cells
-      later_spent {ticket} h e z = rw (sym u, n, sym q, lt-ltb p wait_places h, sym e, le-leb word64 (ticket + 1) (omega (arith, z)))
+      module _ {p : ℕ} (q : Found (Some p) (ticket_place t 0) wait_places) {ticket : ℕ} (e : ticket ≡ next_ticket t) where
+        pub later_spent : ticket ≡ never → Later (refused_with 8 t l)
+        unfolding later_cells
+        later_spent z = rw (sym u, n, sym q.0, lt-ltb p wait_places q.1, sym e, le-leb word64 (ticket + 1) (omega (arith, z)))
 
-      pub later_queued : {ticket : ℕ} {v : List ℕ} → p < wait_places → ticket ≡ next_ticket t → ticket + 1 < word64 → v ≡ queue_cells t p mode list asking flags alert timeout → answered 11 0 ticket v l ≡ later_cells mode list asking flags alert timeout time t l
-      unfolding later_cells
-      later_queued {ticket} h e b w = rw (sym u, n, sym q, lt-ltb p wait_places h, w, sym e, lt-leb word64 (ticket + 1) b)
+        pub later_queued : {v : List ℕ} → ticket + 1 < word64 → v ≡ queue_cells t p w.mode list w.owner w.clock w.alert w.timeout → Later (answered 11 0 ticket v l)
+        unfolding later_cells
+        later_queued b x = rw (sym u, n, sym q.0, lt-ltb p wait_places q.1, x, sym e, lt-leb word64 (ticket + 1) b)
 
-  pub act_served : (r : Tried) → r ≡ try_list t mode asking alert list → r.served ≡ true → answered r.answer r.index 0 r.tables l ≡ act_cells mode list asking flags alert timeout time t l
-  act_served r e y = rw (sym e, y)
+  abbrev pub Act : Result → Type 0
+  Act r = r ≡ act_cells w.mode list w.owner w.clock w.alert w.timeout time t l
 
-  pub act_later : (r : Tried) → r ≡ try_list t mode asking alert list → r.served ≡ false → (q : Result) → q ≡ later_cells mode list asking flags alert timeout time r.tables l → q ≡ act_cells mode list asking flags alert timeout time t l
-  act_later r e y q h = let s : r.tables ≡ t = ap (λ (x : Tried). x.tables) e ∙ missed_same t mode asking alert list (ap (λ (x : Tried). x.served) (sym e) ∙ y) in
-      h ∙ ap (λ (u : List ℕ). later_cells mode list asking flags alert timeout time u l) s ∙ rw (sym e, y)
+  pub act_served : (s : Served) {u : List ℕ} → tried_by (Some s) u ≡ try_list t w.mode w.owner w.alert list → Act (answered (cond s.abandoned 4 0) s.index 0 u l)
+  act_served s e = rw (sym e)
+
+  pub act_later : {u : List ℕ} → tried_by None u ≡ try_list t w.mode w.owner w.alert list → {q : Result} → q ≡ later_cells w.mode list w.owner w.clock w.alert w.timeout time u l → Act q
+  act_later {u} e h = let s : u ≡ t = ap (λ (x : Tried). x.tables) e ∙ missed_same t w.mode w.owner w.alert list (ap (λ (x : Tried). x.served) (sym e)) in
+      h ∙ ap (λ (v : List ℕ). later_cells w.mode list w.owner w.clock w.alert w.timeout time v l) s ∙ rw (sym e)
 
   module _ (pad : ℕ) where
-    pub wait_long : max_listed < length list → refused_with 1 t l ≡ wait_on_cells mode list asking flags pad alert timeout time t l
+    abbrev pub Wait : Result → Type 0
+    Wait r = r ≡ wait_on_cells w.mode list w.owner w.clock pad w.alert w.timeout time t l
+
+    pub wait_long : max_listed < length list → Wait (refused_with 1 t l)
     unfolding wait_on_cells bad_wait
-    wait_long h = by_bool (bad_wait mode list asking flags pad alert t) (λ y. rw y) (λ n. clash (lt-ltb max_listed (length list) h) (fault_free _ n 1))
+    wait_long h = by_bool (bad_wait w.mode list w.owner w.clock pad w.alert t) (λ y. rw y) (λ n. clash (lt-ltb max_listed (length list) h) (fault_free _ n 1))
 
     -- through a copy of the list
-    pub wait_bad : {copy : List ℕ} {bad : Bool} → copy ≡ list → bad ≡ bad_wait mode copy asking flags pad alert t → bad ≡ true → refused_with 1 t l ≡ wait_on_cells mode list asking flags pad alert timeout time t l
-    unfolding wait_on_cells
-    wait_bad {copy} {bad} k e y = let q : bad_wait mode list asking flags pad alert t ≡ true = ap (λ (x : List ℕ). bad_wait mode x asking flags pad alert t) (sym k) ∙ sym e ∙ y in rw q
+    module _ {copy : List ℕ} {bad : Bool} (k : copy ≡ list) (e : bad ≡ bad_wait w.mode copy w.owner w.clock pad w.alert t) where
+      pub wait_bad : bad ≡ true → Wait (refused_with 1 t l)
+      unfolding wait_on_cells
+      wait_bad y = rw (sym (rw k at e), y)
 
-    pub wait_acts : {copy : List ℕ} {bad : Bool} → copy ≡ list → bad ≡ bad_wait mode copy asking flags pad alert t → bad ≡ false → (q : Result) → q ≡ act_cells mode copy asking flags alert timeout time t l → q ≡ wait_on_cells mode list asking flags pad alert timeout time t l
-    unfolding wait_on_cells
-    wait_acts {copy} {bad} k e y q h = let z : bad_wait mode list asking flags pad alert t ≡ false = ap (λ (x : List ℕ). bad_wait mode x asking flags pad alert t) (sym k) ∙ sym e ∙ y in
-        h ∙ ap (λ (x : List ℕ). act_cells mode x asking flags alert timeout time t l) k ∙ rw z
+      pub wait_acts : bad ≡ false → {q : Result} → q ≡ act_cells w.mode copy w.owner w.clock w.alert w.timeout time t l → Wait q
+      unfolding wait_on_cells
+      wait_acts y h = rw k at h ∙ rw (sym (rw k at e), y)
 
 -- the index of a wait's answer stays within a list
 later_index : (t : List ℕ) (mode : ℕ) (list : List ℕ) (asking flags alert timeout time : ℕ) (l : Lent) → (later_cells mode list asking flags alert timeout time t l).first ≡ 0
