@@ -1,12 +1,7 @@
-use Rattle.signals.proofs.Laws.{signal_is}
 use Rattle.refine.proofs.Validity.{small_of}
-use Rattle.cells.specs.Objects.{unlock_fields}
 use Rattle.kinds.specs.Values.{cells_of}
 use native.Mathlib.Omega.{arith}
 use Rattle.signals.proofs.unlock.Goals as goal
 
-pub overflow_cast-previous : goal.overflow_cast-previous
-overflow_cast-previous c = let a = c.args in omega (arith, small_of a.t.now a.h (cells_of c.named-o.result) c.named-o.ensures c.requires.1)
-
-pub returns : goal.returns
-returns c = let a = c.args in signal_is a.t.now a.wake.now a.h (unlock_fields a.asking) (λ x. x.count) c.named-o.ensures c.unlock-c.ensures c.apply.ensures
+pub overflow_cast-o : goal.overflow_cast-o
+overflow_cast-o c = let a = c.args in omega (arith, small_of a.t.now a.h (cells_of c.named-o.result) c.named-o.ensures c.requires.0)
