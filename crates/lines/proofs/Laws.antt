@@ -204,6 +204,18 @@ module _ {A B : Type 0} (m : Reader A) (f : A → Reader B) (t : List ℕ) where
   unfolding ◌>>=◌
   seq_stop h = rw h
 
+-- two of them read as one
+module _ {A B C : Type 0} (m : Reader A) (f : A → Reader B) (g : B → Reader C) (t : List ℕ) where
+  seq_assoc : (m >>= λ a. f a >>= g) t ≡ ((m >>= f) >>= g) t
+  unfolding ◌>>=◌
+  seq_assoc = by_reading (m t) (λ from e. rw e) (λ a rest e. rw e)
+
+  pub both_on : {b : B} {rest : List ℕ} → (m >>= f) t ≡ good b rest → (m >>= λ a. f a >>= g) t ≡ g b rest
+  both_on h = seq_assoc ∙ seq_on (m >>= f) g t h
+
+  pub both_stop : {from : List ℕ} → (m >>= f) t ≡ bad from → (m >>= λ a. f a >>= g) t ≡ bad from
+  both_stop h = seq_assoc ∙ seq_stop (m >>= f) g t h
+
 -- AS MANY AS COUNTED: what was read, before what the rest gives
 unfoldable pub ahead : {A : Type 0} → List A → Read (List A) → Read (List A)
 ahead l (good k rest) = good (l ++ k) rest
@@ -232,21 +244,7 @@ module _ {A : Type 0} (m : Reader A) (n : ℕ) (text : List ℕ) where
     unfolding ahead times give
     all_read l = let z : n - i ≡ 0 = omega arith in r.reads ∙ rw (z, append-nil done)
 
--- WORDS
-module _ {A : Type 0} (w : String) (a : A) (ws : List (String × A)) (t : List ℕ) where
-  pub word_here : {rest : List ℕ} → after (ascii w) t ≡ some rest → word_line ((w, a) ∷ ws) t ≡ good a rest
-  unfolding word_line
-  word_here e = rw e
-
-  pub word_next : after (ascii w) t ≡ none → word_line ((w, a) ∷ ws) t ≡ word_line ws t
-  unfolding word_line
-  word_next e = rw e
-
-pub word_none : {A : Type 0} (t : List ℕ) → word_line {A = A} [] t ≡ bad t
-unfolding word_line
-word_none t = refl
-
--- one of two, by their bytes and by what they mean
+-- ONE OF TWO LINES, by their bytes and by what they mean
 module _ {A : Type 0} (w v : String) (x y : A) (t : List ℕ) where
   either_read : word_line ((w, x) ∷ (v, y) ∷ []) t ≡ by_read (either_of (ascii w) (ascii v) t) (λ from. bad from) (λ n rest. good (cond (eqb n 0) x y) rest)
   unfolding word_line either_of
