@@ -5,20 +5,12 @@ ghost use Rattle.std.specs.Prelude.{◌≡◌, ◌%◌};
 ghost use Rattle.model.specs.Sizes.{word32};
 ghost use Rattle.model.specs.Snapshot.{byte_sum};
 
-fn wide(b: u8) -> u32
-    ensures { result ≡ b }
-{
-    b as u32
-}
-
 pub fn byte_sum(bytes: &[u8]) -> u32
     ensures { result ≡ byte_sum bytes.now % word32 }
 {
     let mut sum: u32 = 0;
-    let mut i: usize = 0;
-    while i < bytes.len() {
-        sum = std::num::wrapping_add_u32(sum, wide(bytes[i]));
-        i += 1;
+    for b in bytes {
+        sum = sum.wrapping_add(u32::from(*b));
     }
     sum
 }

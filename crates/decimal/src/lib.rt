@@ -9,12 +9,9 @@ pub fn put_text(buf: &mut [u8], at: usize, text: &[u8]) -> usize
     requires { Room buf.old at text.now }
     ensures { Wrote buf.old at text.now result buf.new }
 {
-    let mut i: usize = 0;
-    while i < text.len() {
-        buf[at + i] = text[i];
-        i += 1;
-    }
-    at + i
+    let end = at + text.len();
+    buf[at..end].copy_from_slice(text);
+    end
 }
 
 // How many digits n has.

@@ -1,169 +1,109 @@
-// One line of a lent text, read at a position. This crate knows no tables.
+// The lines of a lent text, read one after another. This crate knows no tables.
 #![tactic(auto)]
 
-ghost use Rattle.std.specs.Prelude.{◌≡◌, ◌+◌, ◌*◌, ◌/◌, ◌<◌, ◌≤◌, false, [], length, drop, nat_lt};
-ghost use Rattle.lines.specs.Outcome.{leads, figure, end_of, number_of, either_of, Outcome};
+ghost use Rattle.std.specs.Prelude.{◌≡◌, ◌+◌, ◌*◌, ◌<◌, ◌≤◌, [], length, drop, Some, None, MatchOption, MatchBool};
+ghost use Rattle.std.proofs.Math.Option.{none, some};
+ghost use Rattle.model.specs.Basics.{bit};
+ghost use Rattle.model.specs.Reading.{good, bad, after};
+ghost use Rattle.lines.specs.Outcome.{figure, number_of, either_of, Told};
 
-use std::num::wrapping_sub_u64;
+// The text from the first line on that is not as due.
+#[derive(Clone, Copy, Debug, PartialEq, Eq)]
+pub struct NotDue<'a> {
+    pub from: &'a [u8],
+}
 
-// A line as due: the position after it, and its value. Else the position where it begins.
+// The lines that are still to be read.
 #[derive(Clone, Copy)]
-pub struct Line {
-    pub ok: bool,
-    pub at: usize,
-    pub value: u64,
+pub struct Lines<'a> {
+    pub rest: &'a [u8],
 }
 
-fn wide(b: u8) -> u64
-    ensures { result ≡ b }
+// The digit that a text begins with, and the rest.
+fn digit(text: &[u8]) -> Option<(u64, &[u8])>
+    ensures { MatchOption result (figure text.now ≡ None) (λ x. (figure text.now ≡ Some x.0) × (x.1.now ≡ drop 1 text.now)) }
 {
-    b as u64
-}
-
-// Whether the text has this front at a position.
-pub fn begins(text: &[u8], at: usize, front: &[u8]) -> bool
-    requires { at ≤ length text.now }
-    ensures { result ≡ leads front.now (drop at text.now) }
-{
-    let mut i: usize = 0;
-    while i < front.len() {
-        if text.len() - at <= i {
-            return false;
-        }
-        if text[at + i] != front[i] {
-            return false;
-        }
-        i += 1;
-    }
-    true
-}
-
-// The digit at a position, or 10 where none stands.
-fn digit(text: &[u8], i: usize) -> u64
-    ensures { result ≡ figure (drop i text.now) }
-{
-    if text.len() <= i {
-        return 10;
-    }
-    // a byte below 48 wraps to a large number
-    let d = wrapping_sub_u64(wide(text[i]), 48);
-    if 9 < d {
-        return 10;
-    }
-    d
-}
-
-// Whether n with the digit d after it is above `high`, whose tenth is known.
-fn above(n: u64, d: u64, high: u64, tenth: u64) -> bool
-    requires { (d < 10) × (tenth ≡ high / 10) }
-    ensures { result ≡ nat_lt high (10 * n + d) }
-{
-    if n < tenth {
-        return false;
-    }
-    if tenth < n {
-        return true;
-    }
-    high - 10 * n < d
-}
-
-// What is told of a line that is not as due.
-fn bad_line(at: usize) -> Line
-    ensures { result ≡ record { ok = false; at = at; value = 0 } }
-{
-    Line {
-        ok: false,
-        at: at,
-        value: 0,
+    let (first, rest) = text.split_first()?;
+    if first.is_ascii_digit() {
+        Some((u64::from(*first - b'0'), rest))
+    } else {
+        None
     }
 }
 
-// The number n that was read from `at` on, if its line feed stands at i.
-fn ended(text: &[u8], at: usize, i: usize, n: u64) -> Line
-    requires { (at ≤ length text.now) × (i ≤ length text.now) }
-    ensures { Outcome text.now (end_of n (drop at text.now) (drop i text.now)) result.ok result.value result.at }
+// n with the digit d after it, unless that is above `high`.
+fn with_digit(n: u64, d: u64, high: u64) -> Option<u64>
+    ensures { MatchOption result (high < 10 * n + d) (λ m. (m ≡ 10 * n + d) × (m ≤ high)) }
 {
-    let feed = begins(text, i, b"\n");
-    if !feed {
-        return bad_line(at);
-    }
-    Line {
-        ok: true,
-        at: i + 1,
-        value: n,
-    }
+    let next = n.checked_mul(10)?.checked_add(d)?;
+    if high < next { None } else { Some(next) }
 }
 
-// A plain number of at most `high` and its line feed: no sign and no leading zero pass.
-fn number(text: &[u8], at: usize, high: u64) -> Line
-    requires { at ≤ length text.now }
-    ensures { Outcome text.now (number_of [] 0 high (drop at text.now)) result.ok result.value result.at }
+// A plain number of at most `high` and its line feed, and the rest: no sign and no leading zero pass.
+fn number(text: &[u8], high: u64) -> Option<(u64, &[u8])>
+    ensures { MatchOption result (number_of [] 0 high text.now ≡ bad text.now) (λ x. number_of [] 0 high text.now ≡ good x.0 x.1.now) }
 {
-    let mut n = digit(text, at);
-    if 9 < n {
-        return bad_line(at);
-    }
+    let (mut n, mut rest) = digit(text)?;
     if high < n {
-        return bad_line(at);
+        return None;
     }
-    let mut i = at + 1;
-    // no digit may follow a zero
-    if n == 0 {
-        return ended(text, at, i, n);
-    }
-    let tenth = high / 10;
-    let mut d = digit(text, i);
-    while d < 10 {
-        let over = above(n, d, high, tenth);
-        if over {
-            return bad_line(at);
+    while let Some((d, after)) = digit(rest) {
+        // no digit may follow a zero
+        if n == 0 {
+            return None;
         }
-        n = 10 * n + d;
-        i += 1;
-        d = digit(text, i);
+        n = with_digit(n, d, high)?;
+        rest = after;
     }
-    ended(text, at, i, n)
+    Some((n, rest.strip_prefix(b"\n")?))
 }
 
-// The line due has this key and a plain number from low to high.
-pub fn number_line(text: &[u8], at: usize, key: &[u8], low: u64, high: u64) -> Line
-    requires { at ≤ length text.now }
-    ensures { Outcome text.now (number_of key.now low high (drop at text.now)) result.ok result.value result.at }
+// A key, a number from `low` to `high` and a line feed, and the rest.
+fn keyed_number<'a>(text: &'a [u8], key: &[u8], low: u64, high: u64) -> Option<(u64, &'a [u8])>
+    ensures { MatchOption result (number_of key.now low high text.now ≡ bad text.now) (λ x. number_of key.now low high text.now ≡ good x.0 x.1.now) }
 {
-    let keyed = begins(text, at, key);
-    if !keyed {
-        return bad_line(at);
-    }
-    let n = number(text, at + key.len(), high);
-    if !n.ok {
-        return bad_line(at);
-    }
-    if n.value < low {
-        return bad_line(at);
-    }
-    n
+    let (n, rest) = number(text.strip_prefix(key)?, high)?;
+    if n < low { None } else { Some((n, rest)) }
 }
 
-// One of two lines that have no number: 0 for the first, 1 for the second.
-pub fn either(text: &[u8], at: usize, first: &[u8], second: &[u8]) -> Line
-    requires { at ≤ length text.now }
-    ensures { Outcome text.now (either_of first.now second.now (drop at text.now)) result.ok result.value result.at }
-{
-    let one = begins(text, at, first);
-    if one {
-        return Line {
-            ok: true,
-            at: at + first.len(),
-            value: 0,
+impl<'a> Lines<'a> {
+    pub fn not_due(&self) -> NotDue<'a>
+        ensures { result.from.now ≡ self.now.rest.now }
+    {
+        NotDue { from: self.rest }
+    }
+
+    // A line that has no number: whether it is due, and then it is read.
+    pub fn skip(&mut self, line: &[u8]) -> bool
+        ensures { MatchBool result (after line.now self.old.rest.now ≡ some self.new.rest.now)
+            ((after line.now self.old.rest.now ≡ none) × (self.new.rest.now ≡ self.old.rest.now)) }
+    {
+        let Some(rest) = self.rest.strip_prefix(line) else {
+            return false;
         };
+        self.rest = rest;
+        true
     }
-    let other = begins(text, at, second);
-    if !other {
-        return bad_line(at);
+
+    // One of two lines that have no number: whether it is the second.
+    pub fn either(&mut self, first: &[u8], second: &[u8]) -> Result<bool, NotDue<'a>>
+        ensures { Told bit (either_of first.now second.now self.old.rest.now) self.new.rest.now result }
+    {
+        if self.skip(first) {
+            Ok(false)
+        } else if self.skip(second) {
+            Ok(true)
+        } else {
+            Err(self.not_due())
+        }
     }
-    Line {
-        ok: true,
-        at: at + second.len(),
-        value: 1,
+
+    // A line of a key and a plain number from `low` to `high`.
+    pub fn number(&mut self, key: &[u8], low: u64, high: u64) -> Result<u64, NotDue<'a>>
+        ensures { Told (λ n. n) (number_of key.now low high self.old.rest.now) self.new.rest.now result }
+    {
+        let (n, rest) = keyed_number(self.rest, key, low, high).ok_or(self.not_due())?;
+        self.rest = rest;
+        Ok(n)
     }
 }

@@ -22,10 +22,10 @@ use Rattle.refine.proofs.Validity.{Words, valid_cells_lem}
 use Rattle.refine.proofs.Quiet.{quiet_is}
 use Rattle.model.specs.Waits.{State}
 use Rattle.model.proofs.Cells.{Shaped}
-use Rattle.reader.specs.Values.{ReadAll, AllRead}
-use Rattle.reader.specs.declared.Parsed.{Parsed}
+use Rattle.reader.specs.Values.{AllStored, Stopped}
 use Rattle.ntsync_restore.specs.Judged.{JudgedAs}
-use Rattle.ntsync_restore.specs.declared.Restored.{Restored as Result}
+use Rattle.std.specs.Prelude.{Result, Ok, Err}
+use Rattle.ntsync_restore.specs.declared.Refused.{Refused}
 use Rattle.reader.proofs.Storing.{built_is, shown_shaped, shaped_test}
 
 -- THE TESTS of what was read
@@ -69,56 +69,50 @@ tests_mean s o g = rw (shaped_test s g) (by_bool (valid_state s)
 judged_by : (text : List ℕ) (l : Lines) (rest : List ℕ) (a : Bool) → read_snapshot text ≡ good l rest → a ≡ all_of (valid_state (shown l) ∷ quiet (shown l) ∷ in_order l rest ∷ []) → restored text ≡ cond a (accepted (shown l)) (refused 0)
 judged_by text l rest a e q = restored_by_tests text ∙ rw (e, q)
 
--- WHAT WAS READ, by cases
-pub record Shown (text : List ℕ) (r : Parsed) (end : List ℕ) : Type 0 where
+-- WHAT WAS READ
+pub record Shown (text end : List ℕ) (fine : Bool) : Type 0 where
   pub lines : Lines
   pub rest : List ℕ
   pub read : read_snapshot text ≡ good lines rest
   pub cells : end ≡ encode (shown lines)
-  pub order : r.fine ≡ in_order lines rest
+  pub order : fine ≡ in_order lines rest
   pub shaped : Shaped (shown lines)
 
 abbrev pub blank : List ℕ
 blank = replicate table_length 0
 
-well_read : (text : List ℕ) (r : Parsed) (end : List ℕ) (o : Read Lines) → read_snapshot text ≡ o → AllRead text blank r end o → r.ok ≡ true → Shown text r end
-well_read text r end (bad from) e h y = clash y h.0
-well_read text r end (good l rest) e h y = let g : Sensible l = (snapshot_exact.exact text l rest e).1 in
-    record { lines = l; rest = rest; read = e; cells = h.1 ∙ built_is l g; order = h.2; shaped = shown_shaped l g }
-
-ill_read : (text : List ℕ) (r : Parsed) (end : List ℕ) (o : Read Lines) → read_snapshot text ≡ o → AllRead text blank r end o → r.at ≤ length text → r.ok ≡ false → restored text ≡ refused r.at
-unfolding restored
-ill_read text r end (bad from) e h w n = let l = length-drop r.at text in let k : length text - length (drop r.at text) ≡ r.at = omega arith in rw (e, h.1, k)
-ill_read text r end (good l rest) e h w n = clash h.0 n
+well_read : (text end : List ℕ) (fine : Bool) → AllStored text blank end fine → Shown text end fine
+well_read text end fine h = let g : Sensible h.lines = (snapshot_exact.exact text h.lines h.rest h.reads).1 in
+    record { lines = h.lines; rest = h.rest; read = h.reads; cells = h.kept ∙ built_is h.lines g; order = h.order; shaped = shown_shaped h.lines g }
 
 -- THE TEXT, judged
-module _ (text : List ℕ) (r : Parsed) (end : List ℕ) (h : ReadAll text blank r end) where
-  pub not_read : r.ok ≡ false → JudgedAs (restored text) (record { answer = 13; offset = r.at }) end
-  not_read n = rw (ill_read text r end (read_snapshot text) refl h.lines h.within n) (refl, refl)
+pub not_read : (text from end : List ℕ) → Stopped text from → JudgedAs (restored text) (Err (record { offset = length text - length from })) end
+unfolding restored
+not_read text from end h = rw h.reads refl
 
-  module _ (y : r.ok ≡ true) {a : Bool} (q : a ≡ all_of (r.fine ∷ valid_tables end ∷ not (some_servable end) ∷ [])) where
-    read : Shown text r end
-    read = well_read text r end (read_snapshot text) refl h.lines y
+module _ (text end : List ℕ) (fine : Bool) (h : AllStored text blank end fine) {a : Bool} (q : a ≡ all_of (fine ∷ valid_tables end ∷ not (some_servable end) ∷ [])) where
+  read : Shown text end fine
+  read = well_read text end fine h
 
-    state : State
-    state = shown read.lines
+  state : State
+  state = shown read.lines
 
-    judged : restored text ≡ cond a (accepted state) (refused 0)
-    unfolding state
-    judged = judged_by text read.lines read.rest a read.read
-        (q ∙ (ap (λ (u : List ℕ). all_of (r.fine ∷ valid_tables u ∷ not (some_servable u) ∷ [])) read.cells
-        ∙ (ap (λ (o : Bool). all_of (o ∷ valid_tables (encode (shown read.lines)) ∷ not (some_servable (encode (shown read.lines))) ∷ [])) read.order
-        ∙ tests_mean (shown read.lines) (in_order read.lines read.rest) read.shaped)))
+  judged : restored text ≡ cond a (accepted state) (refused 0)
+  unfolding state
+  judged = judged_by text read.lines read.rest a read.read
+      (q ∙ (ap (λ (u : List ℕ). all_of (fine ∷ valid_tables u ∷ not (some_servable u) ∷ [])) read.cells
+      ∙ (ap (λ (o : Bool). all_of (o ∷ valid_tables (encode (shown read.lines)) ∷ not (some_servable (encode (shown read.lines))) ∷ [])) read.order
+      ∙ tests_mean (shown read.lines) (in_order read.lines read.rest) read.shaped)))
 
-    known : {b : Bool} → a ≡ b → restored text ≡ cond b (accepted state) (refused 0)
-    known e = judged ∙ ap (λ (b : Bool). cond b (accepted state) (refused 0)) e
+  known : {b : Bool} → a ≡ b → restored text ≡ cond b (accepted state) (refused 0)
+  known e = judged ∙ ap (λ (b : Bool). cond b (accepted state) (refused 0)) e
 
-    pub not_accepted : a ≡ false → JudgedAs (restored text) (record { answer = 13; offset = 0 }) end
-    not_accepted n = rw (known n) (refl, refl)
+  pub not_accepted : a ≡ false → JudgedAs (restored text) (Err (record { offset = 0 })) end
+  not_accepted n = rw (known n) refl
 
-    pub read_back : a ≡ true → JudgedAs (restored text) (record { answer = 0; offset = 0 }) end
-    unfolding state
-    read_back e = rw (known e) (refl, refl, read.cells)
+  pub read_back : a ≡ true → JudgedAs (restored text) (Ok tt) end
+  unfolding state
+  read_back e = rw (known e) read.cells
 
 -- THE CALL
 module _ (t text : List ℕ) where
@@ -128,21 +122,20 @@ module _ (t text : List ℕ) where
   abbrev outcome : Restored → Outcome (List ℕ)
   outcome o = by_restored o (λ s. unaltered 0 nothing_lent (encode s)) (λ offset. unread offset t)
 
-  module _ (full : length t ≡ table_length) (r : Result) (end : List ℕ) where
+  module _ (full : length t ≡ table_length) (end : List ℕ) where
     told : restore_tables t text ≡ outcome (restored text)
     told = (reading t text).0 full
 
-    refusal : (o : Restored) → JudgedAs o r end → (r.answer ≡ 0 → ⊥) → seen (outcome o) ≡ sees (r.answer ∷ r.offset ∷ 0 ∷ 0 ∷ []) nothing_lent t
-    refusal (accepted s) h n = absurd (n h.0)
-    refusal (refused offset) h n = rw (h.0, h.1)
+    refusal : (o : Restored) (r : Refused) → JudgedAs o (Err r) end → seen (outcome o) ≡ sees (13 ∷ r.offset ∷ 0 ∷ 0 ∷ []) nothing_lent t
+    refusal (accepted s) r h = absurd h
+    refusal (refused offset) r h = rw h
 
-    acceptance : (o : Restored) → JudgedAs o r end → r.answer ≡ 0 → seen (outcome o) ≡ sees (r.answer ∷ r.offset ∷ 0 ∷ 0 ∷ []) nothing_lent end
-    acceptance (accepted s) h y = rw (h.0, h.1, h.2)
-    acceptance (refused offset) h y = absurd (let a = h.0 in let z : ⊥ = omega arith in z)
+    acceptance : (o : Restored) → JudgedAs o (Ok tt) end → seen (outcome o) ≡ sees (0 ∷ 0 ∷ 0 ∷ 0 ∷ []) nothing_lent end
+    acceptance (accepted s) h = rw h
+    acceptance (refused offset) h = absurd h
 
-    module _ (h : JudgedAs (restored text) r end) where
-      pub refused_whole : (r.answer ≡ 0 → ⊥) → seen (restore_tables t text) ≡ sees (r.answer ∷ r.offset ∷ 0 ∷ 0 ∷ []) nothing_lent t
-      refused_whole n = ap seen told ∙ refusal (restored text) h n
+    pub refused_whole : (r : Refused) → JudgedAs (restored text) (Err r) end → seen (restore_tables t text) ≡ sees (13 ∷ r.offset ∷ 0 ∷ 0 ∷ []) nothing_lent t
+    refused_whole r h = ap seen told ∙ refusal (restored text) r h
 
-      pub accepted_whole : r.answer ≡ 0 → seen (restore_tables t text) ≡ sees (r.answer ∷ r.offset ∷ 0 ∷ 0 ∷ []) nothing_lent end
-      accepted_whole y = ap seen told ∙ acceptance (restored text) h y
+    pub accepted_whole : JudgedAs (restored text) (Ok tt) end → seen (restore_tables t text) ≡ sees (0 ∷ 0 ∷ 0 ∷ 0 ∷ []) nothing_lent end
+    accepted_whole h = ap seen told ∙ acceptance (restored text) h

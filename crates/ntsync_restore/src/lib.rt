@@ -22,13 +22,10 @@ pub struct Restored {
     pub offset: u64,
 }
 
-fn not_a_snapshot(offset: usize) -> Restored
-    ensures { result ≡ record { answer = 13; offset = offset } }
-{
-    Restored {
-        answer: NOT_A_SNAPSHOT,
-        offset: offset as u64,
-    }
+// A text that is no snapshot of a board as it must be: the offset of the line that is not as due, else 0.
+#[derive(Clone, Copy, Debug, PartialEq, Eq)]
+struct Refused {
+    offset: usize,
 }
 
 // The lines were in order, what they show is valid, and no wait in it could be served.
@@ -36,32 +33,20 @@ fn acceptable(in_order: bool, read: &[u64]) -> bool
     ensures { result ≡ all_of (in_order ∷ valid_tables read.now
         ∷ not (some_servable read.now) ∷ []) }
 {
-    if !in_order {
-        return false;
-    }
-    let valid = validity::valid(read);
-    if !valid {
-        return false;
-    }
-    quiet::quiet(read)
+    in_order && validity::valid(read) && quiet::quiet(read)
 }
 
 // The text, read into tables of zeros, and every test of it.
-fn judge(text: &[u8], read: &mut [u64]) -> Restored
+fn judge(text: &[u8], read: &mut [u64]) -> Result<(), Refused>
     requires { read.old ≡ replicate table_length 0 }
     ensures { JudgedAs (restored text.now) result read.new }
 {
-    let lines = reader::read_snapshot(text, read);
-    if !lines.ok {
-        return not_a_snapshot(lines.at);
-    }
-    let accepted = acceptable(lines.fine, read);
-    if !accepted {
-        return not_a_snapshot(0);
-    }
-    Restored {
-        answer: 0,
-        offset: 0,
+    match reader::read_snapshot(text, read) {
+        Ok(in_order) if acceptable(in_order, read) => Ok(()),
+        Ok(_) => Err(Refused { offset: 0 }),
+        Err(line) => Err(Refused {
+            offset: text.len() - line.from.len(),
+        }),
     }
 }
 
@@ -76,11 +61,18 @@ pub fn restore(tables: &mut [u64], text: &[u8]) -> Restored
             offset: 0,
         };
     }
-    let mut read: [u64; tables::TABLE_LENGTH] = [0; tables::TABLE_LENGTH];
-    let r = judge(text, &mut read);
-    if r.answer != 0 {
-        return r;
+    let mut read = [0; tables::TABLE_LENGTH];
+    match judge(text, &mut read) {
+        Ok(()) => {
+            tables.copy_from_slice(&read);
+            Restored {
+                answer: 0,
+                offset: 0,
+            }
+        }
+        Err(refused) => Restored {
+            answer: NOT_A_SNAPSHOT,
+            offset: refused.offset as u64,
+        },
     }
-    tables::copy(tables, &read);
-    r
 }

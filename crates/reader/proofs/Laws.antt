@@ -1,27 +1,49 @@
--- Laws of the reading loops: what has been read and stored so far.
-use mathlib.Core.Path.{◌≡◌, refl, ap, sym, ◌∙◌}
-use mathlib.Core.Bool.{Bool, true, false, ◌&&◌}
-use mathlib.Core.List.{List, [], ◌∷◌, ◌++◌}
-use Prim.Native.Nat.{ℕ, zero, suc, ◌+◌, ◌-◌, ◌≤◌, ◌<◌}
-use native.Mathlib.Omega.{arith}
-use lib.ListN.{length, drop, take, length-take}
-use lib.Dec.{ltb}
+-- Laws of the readings: what a `?` hands on, and what has been read and stored so far.
+use Rattle.std.proofs.Math.Seq.{take-append_seam}
+use Rattle.std.proofs.Common.{◌≡◌, ℕ, suc, ◌+◌, ◌≤◌, ◌<◌, Bool, true, false, ◌&&◌, ltb, List, [], ◌∷◌, ◌++◌, length, take, refl, sym, ap, ◌∙◌, arith, Ok, Err, subst, length-append, length-take-le}
+use Rattle.std.proofs.lemmas.List.{map-append}
+use Rattle.std.specs.Prelude.{Result, MatchResult}
+use Rattle.std.specs.Result.{IsErr, IsErrAnd}
+use Rattle.std.specs.Int.{from_bool}
+use Rattle.model.specs.Basics.{bit}
 use Rattle.model.specs.Objects.{Object}
-use Rattle.model.specs.Waits.{Wait}
+use Rattle.model.specs.Waits.{any, all, Wait}
 use Rattle.model.specs.Layout.{mode_cell}
+use Rattle.model.specs.Snapshot.{ascii}
 use Rattle.model.specs.Reading.{good, bad, times, word_line, read_object, read_wait}
 use Rattle.model.specs.RestoreTests.{rising, handles, tickets}
 use Rattle.model.proofs.Logic.{by_bool}
-use Rattle.cells.specs.Objects.{Fields, store}
+use Rattle.cells.specs.Objects.{store}
 use Rattle.cells.specs.Calls.{put_header, put_list}
 use Rattle.refine.proofs.Objects.{fields_of}
-use Rattle.model.specs.Snapshot.{ascii}
-use Rattle.lines.specs.Outcome.{either_of, Outcome}
-use Rattle.lines.proofs.Laws.{ahead, ahead_start, ahead_stop, ahead_more, ahead_end, either_word}
-use Rattle.reader.specs.Storing.{stored, queued_from}
-use Rattle.reader.specs.Values.{ReadObjects, ReadWaits, mode_words, mode_of, clock_words, wait_from}
-use Rattle.reader.specs.declared.Listed.{Listed}
+use Rattle.kinds.specs.Values.{cells_of}
+use Rattle.kinds.specs.declared.Object.{Object as Cells}
+use Rattle.lines.specs.Outcome.{either_of}
+use Rattle.lines.proofs.Laws.{either_word, Begun, none_read, next_bad, next_read, all_read}
 use Rattle.reader.specs.declared.Header.{Header}
+use Rattle.reader.specs.Storing.{stored, queued_from}
+use Rattle.reader.specs.Values.{mode_words, mode_of, clock_words, object_from, IsObject, wait_from, ObjectsStored, WaitsStored}
+
+-- what a `?` hands on of an error
+pub on_err : {V E : Type 0} (P : V → Type 0) (Q : E → Type 0) {e : E} (r : Result V E) → IsErr r × IsErrAnd r (λ x. x ≡ e) → Q e → MatchResult r P Q
+on_err P Q (Ok x) h q = absurd h.1
+on_err P Q (Err d) h q = subst Q (sym h.1) q
+
+-- A WAIT'S TWO WORDS, as cells
+pub mode_read : (b : Bool) {m : ℕ} (t : List ℕ) {rest : List ℕ} → m ≡ from_bool b → either_of (ascii "mode=any\n") (ascii "mode=all\n") t ≡ good (bit b) rest → word_line mode_words t ≡ good (mode_of m) rest
+mode_read true t e h = rw e (either_word "mode=any\n" "mode=all\n" any all t true h)
+mode_read false t e h = rw e (either_word "mode=any\n" "mode=all\n" any all t false h)
+
+pub clock_read : (b : Bool) {m : ℕ} (t : List ℕ) {rest : List ℕ} → m ≡ from_bool b → either_of (ascii "clock=mono\n") (ascii "clock=real\n") t ≡ good (bit b) rest → word_line clock_words t ≡ good m rest
+clock_read true t e h = rw e (either_word "clock=mono\n" "clock=real\n" 0 1 t true h)
+clock_read false t e h = rw e (either_word "clock=mono\n" "clock=real\n" 0 1 t false h)
+
+pub mode_is : (b : Bool) {m : ℕ} → m ≡ from_bool b → mode_cell (mode_of m) ≡ m
+mode_is true e = rw e
+mode_is false e = rw e
+
+pub taken : (n : ℕ) (x r : List ℕ) → n ≡ length x → take n (x ++ r) ≡ x
+taken n x r e = rw e (take-append_seam x r)
 
 -- OBJECTS, STORED AS THEY ARE READ
 stored_then : (t : List ℕ) (os : List (ℕ × Object)) (x : ℕ × Object) → stored t (os ++ (x ∷ [])) ≡ store (stored t os) x.0 (fields_of x.1)
@@ -29,64 +51,58 @@ unfolding stored
 stored_then t [] x = refl
 stored_then t (y ∷ os) x = stored_then (store t y.0 (fields_of y.1)) os x
 
-unfoldable pub last_of : ℕ → List (ℕ × Object) → ℕ
+-- numbers that rise as they are read: the last of them, and one more
+unfoldable pub last_of : ℕ → List ℕ → ℕ
 last_of low [] = low
-last_of low (x ∷ os) = last_of x.0 os
+last_of low (n ∷ ns) = last_of n ns
 
-last_then : (low : ℕ) (os : List (ℕ × Object)) (x : ℕ × Object) → last_of low (os ++ (x ∷ [])) ≡ x.0
+last_then : (low : ℕ) (ns : List ℕ) (n : ℕ) → last_of low (ns ++ (n ∷ [])) ≡ n
 unfolding last_of
-last_then low [] x = refl
-last_then low (y ∷ os) x = last_then y.0 os x
+last_then low [] n = refl
+last_then low (m ∷ ns) n = last_then m ns n
 
-rising_then : (low : ℕ) (os : List (ℕ × Object)) (x : ℕ × Object) → rising low (handles (os ++ (x ∷ []))) ≡ (rising low (handles os) && ltb (last_of low os) x.0)
+rising_then : (low : ℕ) (ns : List ℕ) (n : ℕ) → rising low (ns ++ (n ∷ [])) ≡ (rising low ns && ltb (last_of low ns) n)
 unfolding rising last_of
-rising_then low [] x = by_bool (ltb low x.0) (λ t. rw t) (λ f. rw f)
-rising_then low (y ∷ os) x = by_bool (ltb low y.0) (λ t. rw t (rising_then y.0 os x)) (λ f. rw f)
+rising_then low [] n = by_bool (ltb low n) (λ t. rw t) (λ f. rw f)
+rising_then low (m ∷ ns) n = by_bool (ltb low m) (λ t. rw t (rising_then m ns n)) (λ f. rw f)
 
-pub record Going (text : List ℕ) (at n : ℕ) (t₀ t : List ℕ) (pos last : ℕ) (in_order : Bool) (i : ℕ) : Type 0 where
-  pub done : List (ℕ × Object)
-  pub whole : times n read_object (drop at text) ≡ ahead done (times (n - i) read_object (drop pos text))
-  pub kept : t ≡ stored t₀ done
-  pub order : in_order ≡ rising 0 (handles done)
-  pub end : last ≡ last_of 0 done
+pub record Rises (ns : List ℕ) (in_order : Bool) (last : ℕ) : Type 0 where
+  pub order : in_order ≡ rising 0 ns
+  pub end : last ≡ last_of 0 ns
 
-pub going_start : (text : List ℕ) (at n : ℕ) (t : List ℕ) → Going text at n t t at 0 true 0
-unfolding stored rising last_of
-going_start text at n t = let z : n - 0 ≡ n = omega arith in record { done = []; whole = rw z (ahead_start text read_object n (drop at text)); kept = refl; order = refl; end = refl }
+none_rise : Rises [] true 0
+unfolding rising last_of
+none_rise = record { order = refl; end = refl }
 
-module _ (text : List ℕ) (at n : ℕ) (t₀ t : List ℕ) (pos last : ℕ) (o : Bool) (i : ℕ) (g : Going text at n t₀ t pos last o i) where
-  pub going_stop : (r : Listed) (end : List ℕ) (len : length end ≡ length t₀) {ok : Bool} {x : ℕ × Object} {e : ℕ} → i < n → Outcome text (read_object (drop pos text)) ok x e → ok ≡ false → r.ok ≡ false → r.at ≡ e → ReadObjects text at n t₀ r end
-  going_stop r end len b h f k p = let z : n - i ≡ suc (n - i - 1) = omega arith in
-      let w : times n read_object (drop at text) ≡ bad (drop r.at text) = g.whole ∙ rw (z, p) (ahead_stop text read_object g.done (n - i - 1) pos h f) in
-      record { objects = rw w (k, refl); within = rw p h.within; size = len }
+next_rises : (ns : List ℕ) (o : Bool) (last n : ℕ) → Rises ns o last → Rises (ns ++ (n ∷ [])) (o && ltb last n) n
+next_rises ns o last n r = record { order = rw (r.order, r.end) (sym (rising_then 0 ns n)); end = sym (last_then 0 ns n) }
 
-  pub going_more : {ok : Bool} {x : ℕ × Object} {e : ℕ} (cells : Fields) (t' : List ℕ) → i < n → Outcome text (read_object (drop pos text)) ok x e → ok ≡ true → fields_of x.1 ≡ cells → t' ≡ store t x.0 cells
-      → Going text at n t₀ t' e x.0 (o && ltb last x.0) (i + 1)
-  going_more {x = x} cells t' b h y c p = let z : n - i ≡ suc (n - (i + 1)) = omega arith in record {
-    done = g.done ++ (x ∷ []);
-    whole = g.whole ∙ rw z (ahead_more text read_object g.done (n - (i + 1)) pos h y);
-    kept = p ∙ (rw (← c, g.kept) (sym (stored_then t₀ g.done x)));
-    order = rw (g.order, g.end) (sym (rising_then 0 g.done x));
-    end = sym (last_then 0 g.done x);
+pub record Storing (n : ℕ) (text t₀ t : List ℕ) (i : ℕ) (rest : List ℕ) (in_order : Bool) (last : ℕ) : Type 0 where
+  pub objects : List (ℕ × Object)
+  pub begun : Begun read_object n text objects i rest
+  pub kept : t ≡ stored t₀ objects
+  pub rises : Rises (handles objects) in_order last
+
+pub none_stored : (n : ℕ) (text t : List ℕ) → Storing n text t t 0 text true 0
+unfolding stored
+none_stored n text t = record { objects = []; begun = none_read read_object n text; kept = refl; rises = none_rise }
+
+module _ (n : ℕ) (text t₀ t : List ℕ) (i : ℕ) (rest : List ℕ) (o : Bool) (last : ℕ) (s : Storing n text t₀ t i rest o last) where
+  pub object_bad : (from : List ℕ) → i < n → read_object rest ≡ bad from → times n read_object text ≡ bad from
+  object_bad from l h = next_bad read_object n text s.objects i rest s.begun from l h
+
+  pub object_stored : (h : ℕ) (x : Cells) (rest' t' : List ℕ) → i < n → read_object rest ≡ good (h, object_from x) rest' → IsObject x → t' ≡ store t h (cells_of x) → Storing n text t₀ t' (i + 1) rest' (o && ltb last h) h
+  object_stored h x rest' t' l r c e = record {
+    objects = s.objects ++ ((h, object_from x) ∷ []);
+    begun = next_read read_object n text s.objects i rest s.begun (h, object_from x) rest' l r;
+    kept = e ∙ rw (← c, s.kept) (sym (stored_then t₀ s.objects (h, object_from x)));
+    rises = rw (map-append (λ y. y.0) s.objects ((h, object_from x) ∷ [])) (next_rises (handles s.objects) o last h s.rises);
   }
 
-  pub going_end : (r : Listed) (len : length t ≡ length t₀) → i ≡ n → pos ≤ length text → r.ok ≡ true → r.at ≡ pos → r.rising ≡ o → ReadObjects text at n t₀ r t
-  going_end r len e b k p q = let z : n - i ≡ 0 = omega arith in
-      let w : times n read_object (drop at text) ≡ good g.done (drop r.at text) = g.whole ∙ rw (z, p) (ahead_end text read_object g.done (drop pos text)) in
-      record { objects = rw w (k, refl, g.kept, q ∙ g.order); within = rw p b; size = len }
+  pub objects_stored : n ≤ i → ObjectsStored (times n read_object text) t₀ t rest o
+  objects_stored l = record { objects = s.objects; reads = all_read read_object n text s.objects i rest s.begun l; kept = s.kept; order = s.rises.order }
 
--- WAITS, STORED AS THEY ARE READ
-pub mode_read : (text t : List ℕ) {ok : Bool} {n e : ℕ} → Outcome text (either_of (ascii "mode=any\n") (ascii "mode=all\n") t) ok n e → Outcome text (word_line mode_words t) ok (mode_of n) e
-mode_read text t h = either_word "mode=any\n" "mode=all\n" mode_of text t h
-
-pub clock_read : (text t : List ℕ) {ok : Bool} {n e : ℕ} → Outcome text (either_of (ascii "clock=mono\n") (ascii "clock=real\n") t) ok n e → Outcome text (word_line clock_words t) ok n e
-clock_read text t h = either_word "clock=mono\n" "clock=real\n" (λ n. n) text t h
-
-pub mode_one : (m : ℕ) → m ≤ 1 → mode_cell (mode_of m) ≡ m
-mode_one zero h = refl
-mode_one (suc zero) h = refl
-mode_one (suc (suc m)) h = absurd (let z : ⊥ = omega arith in z)
-
+-- WAITS, QUEUED AS THEY ARE READ
 abbrev pub queued_at : List ℕ → ℕ → Wait → List ℕ
 queued_at t p w = put_list (put_header t p w.ticket (mode_cell w.mode) w.owner w.clock w.timeout (length w.list) w.alert) p w.list
 
@@ -95,60 +111,32 @@ unfolding queued_from
 queued_then t p [] w = let z : p + 0 ≡ p = omega arith in rw z
 queued_then t p (v ∷ ws) w = let z : p + suc (length ws) ≡ suc p + length ws = omega arith in rw z (queued_then (queued_at t p v) (suc p) ws w)
 
-unfoldable pub last_ticket : ℕ → List Wait → ℕ
-last_ticket low [] = low
-last_ticket low (w ∷ ws) = last_ticket w.ticket ws
+pub record Queueing (n : ℕ) (text t₀ t : List ℕ) (p : ℕ) (rest : List ℕ) (in_order : Bool) (last : ℕ) : Type 0 where
+  pub waits : List Wait
+  pub begun : Begun read_wait n text waits p rest
+  pub kept : t ≡ queued_from t₀ 0 waits
+  pub rises : Rises (tickets waits) in_order last
+  pub place : p ≡ length waits
 
-ticket_then : (low : ℕ) (ws : List Wait) (w : Wait) → last_ticket low (ws ++ (w ∷ [])) ≡ w.ticket
-unfolding last_ticket
-ticket_then low [] w = refl
-ticket_then low (v ∷ ws) w = ticket_then v.ticket ws w
+pub none_queued : (n : ℕ) (text t : List ℕ) → Queueing n text t t 0 text true 0
+unfolding queued_from
+none_queued n text t = record { waits = []; begun = none_read read_wait n text; kept = refl; rises = none_rise; place = refl }
 
-tickets_then : (low : ℕ) (ws : List Wait) (w : Wait) → rising low (tickets (ws ++ (w ∷ []))) ≡ (rising low (tickets ws) && ltb (last_ticket low ws) w.ticket)
-unfolding rising last_ticket
-tickets_then low [] w = by_bool (ltb low w.ticket) (λ t. rw t) (λ f. rw f)
-tickets_then low (v ∷ ws) w = by_bool (ltb low v.ticket) (λ t. rw t (tickets_then v.ticket ws w)) (λ f. rw f)
+module _ (n : ℕ) (text t₀ t : List ℕ) (p : ℕ) (rest : List ℕ) (o : Bool) (last : ℕ) (q : Queueing n text t₀ t p rest o last) where
+  pub wait_bad : (from : List ℕ) → p < n → read_wait rest ≡ bad from → times n read_wait text ≡ bad from
+  wait_bad from l h = next_bad read_wait n text q.waits p rest q.begun from l h
 
-length_then : (ws : List Wait) (w : Wait) → length (ws ++ (w ∷ [])) ≡ length ws + 1
-length_then [] w = refl
-length_then (v ∷ ws) w = let h = length_then ws w in omega arith
+  pub wait_queued : (x : Header) (list rest' t₁ t₂ : List ℕ) → p < n → read_wait rest ≡ good (wait_from x list) rest' → mode_cell (mode_of x.mode) ≡ x.mode → x.listed ≤ length list
+      → t₁ ≡ put_header t p x.ticket x.mode x.owner x.clock x.timeout x.listed x.alert → t₂ ≡ put_list t₁ p (take x.listed list) → Queueing n text t₀ t₂ (p + 1) rest' (o && ltb last x.ticket) x.ticket
+  wait_queued x list rest' t₁ t₂ l r m k a b = let w : Wait = wait_from x list in let at : 0 + length q.waits ≡ p = (let i = q.place in omega arith) in
+      let long : x.listed ≡ length (take x.listed list) = sym (length-take-le x.listed list k) in
+      let here : t₂ ≡ queued_at t p w = b ∙ ap (λ (u : List ℕ). put_list u p (take x.listed list)) (a ∙ rw (m, ← long)) in record {
+        waits = q.waits ++ (w ∷ []);
+        begun = next_read read_wait n text q.waits p rest q.begun w rest' l r;
+        kept = here ∙ rw q.kept (sym (queued_then t₀ 0 q.waits w ∙ rw at));
+        rises = rw (map-append (λ (v : Wait). v.ticket) q.waits (w ∷ [])) (next_rises (tickets q.waits) o last x.ticket q.rises);
+        place = (let i = q.place in let j = length-append q.waits (w ∷ []) in omega arith);
+      }
 
-pub record Queueing (text : List ℕ) (at n : ℕ) (t₀ t : List ℕ) (pos last : ℕ) (in_order : Bool) (p : ℕ) : Type 0 where
-  pub done : List Wait
-  pub whole : times n read_wait (drop at text) ≡ ahead done (times (n - p) read_wait (drop pos text))
-  pub kept : t ≡ queued_from t₀ 0 done
-  pub order : in_order ≡ rising 0 (tickets done)
-  pub end : last ≡ last_ticket 0 done
-  pub place : p ≡ length done
-
-pub queueing_start : (text : List ℕ) (at n : ℕ) (t : List ℕ) → Queueing text at n t t at 0 true 0
-unfolding queued_from rising last_ticket
-queueing_start text at n t = let z : n - 0 ≡ n = omega arith in record { done = []; whole = rw z (ahead_start text read_wait n (drop at text)); kept = refl; order = refl; end = refl; place = refl }
-
-module _ (text : List ℕ) (at n : ℕ) (t₀ t : List ℕ) (pos last : ℕ) (o : Bool) (p : ℕ) (g : Queueing text at n t₀ t pos last o p) where
-  pub queueing_stop : (r : Listed) (end : List ℕ) (len : length end ≡ length t₀) {ok : Bool} {w : Wait} {e : ℕ} → p < n → Outcome text (read_wait (drop pos text)) ok w e → ok ≡ false → r.ok ≡ false → r.at ≡ e → ReadWaits text at n t₀ r end
-  queueing_stop r end len b h f k q = let z : n - p ≡ suc (n - p - 1) = omega arith in
-      let w : times n read_wait (drop at text) ≡ bad (drop r.at text) = g.whole ∙ rw (z, q) (ahead_stop text read_wait g.done (n - p - 1) pos h f) in
-      record { waits = rw w (k, refl); within = rw q h.within; size = len }
-
-  pub queueing_more : {ok : Bool} {e : ℕ} (w : Wait) (t' : List ℕ) → p < n → Outcome text (read_wait (drop pos text)) ok w e → ok ≡ true → t' ≡ queued_at t p w → Queueing text at n t₀ t' e w.ticket (o && ltb last w.ticket) (p + 1)
-  queueing_more w t' b h y q = let z : n - p ≡ suc (n - (p + 1)) = omega arith in let k : 0 + length g.done ≡ p = (let i = g.place in omega arith) in record {
-    done = g.done ++ (w ∷ []);
-    whole = g.whole ∙ rw z (ahead_more text read_wait g.done (n - (p + 1)) pos h y);
-    kept = q ∙ (rw g.kept (sym (queued_then t₀ 0 g.done w ∙ rw k)));
-    order = rw (g.order, g.end) (sym (tickets_then 0 g.done w));
-    end = sym (ticket_then 0 g.done w);
-    place = (let i = g.place in let j = length_then g.done w in omega arith);
-  }
-
-  pub queueing_end : (r : Listed) (len : length t ≡ length t₀) → p ≡ n → pos ≤ length text → r.ok ≡ true → r.at ≡ pos → r.rising ≡ o → ReadWaits text at n t₀ r t
-  queueing_end r len e b k q i = let z : n - p ≡ 0 = omega arith in
-      let w : times n read_wait (drop at text) ≡ good g.done (drop r.at text) = g.whole ∙ rw (z, q) (ahead_end text read_wait g.done (drop pos text)) in
-      record { waits = rw w (k, refl, g.kept, i ∙ g.order); within = rw q b; size = len }
-
-pub queued_here : (x : Header) (list t t₁ t₂ : List ℕ) (p : ℕ) → mode_cell (mode_of x.mode) ≡ x.mode → x.n ≡ length (take x.n list)
-    → t₁ ≡ put_header t p x.ticket x.mode x.owner x.clock x.timeout x.n x.alert → t₂ ≡ put_list t₁ p (take x.n list) → t₂ ≡ queued_at t p (wait_from x list)
-queued_here x list t t₁ t₂ p m n a b = b ∙ ap (λ (u : List ℕ). put_list u p (take x.n list)) (a ∙ rw (m, ← n))
-
-pub take_most : (n m : ℕ) (l : List ℕ) → n ≤ m → length (take n l) ≤ m
-take_most n m l h = let e = length-take n l in omega arith
+  pub waits_queued : n ≤ p → WaitsStored (times n read_wait text) t₀ t rest o
+  waits_queued l = record { waits = q.waits; reads = all_read read_wait n text q.waits p rest q.begun l; kept = q.kept; order = q.rises.order }

@@ -1,3 +1,4 @@
 pub mod Laws
-pub mod Storing
+pub mod Shrinking
 pub mod Whole
+pub mod Storing

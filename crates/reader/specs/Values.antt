@@ -1,79 +1,86 @@
--- What a struct that was read shows, and what is stored of it.
-use Rattle.std.specs.Prelude.{◌≡◌, true, false, cond, List, [], ◌∷◌, ℕ, ◌≤◌, length, drop, take, set, eqb}
+-- What is told of a reading, and what is stored of it.
+use Rattle.std.specs.Prelude.{◌≡◌, Bool, cond, List, [], ◌∷◌, ℕ, ◌≤◌, length, take, set, eqb, Result, MatchResult}
 use Prim.Native.String.{String}
 use Rattle.model.specs.Sizes.{max_listed}
 use Rattle.model.specs.Objects.{Object}
 use Rattle.model.specs.Waits.{Mode, any, all, Wait}
 use Rattle.model.specs.Calls.{Kind, a_semaphore, a_mutex, an_event}
 use Rattle.model.specs.Layout.{object_of, mode_cell}
-use Rattle.model.specs.Reading.{Read, good, bad, times, read_values, read_object, read_wait, Lines, read_snapshot}
+use Rattle.model.specs.Reading.{Read, good, bad, Reader, ◌>>=◌, word_line, read_values, Lines, read_snapshot}
 use Rattle.model.specs.RestoreTests.{rising, handles, tickets, in_order}
-use Rattle.cells.specs.Objects.{fields}
 use Rattle.refine.proofs.Objects.{fields_of}
-use Rattle.lines.specs.Outcome.{Outcome}
+use Rattle.kinds.specs.Values.{cells_of}
+use Rattle.kinds.specs.declared.Object.{Object as Cells}
+use Rattle.lines.specs.declared.NotDue.{NotDue}
 use Rattle.reader.specs.Storing.{stored, queued_from}
-use Rattle.reader.specs.declared.Values.{Values}
-use Rattle.reader.specs.declared.Entry.{Entry}
-use Rattle.reader.specs.declared.Listed.{Listed}
 use Rattle.reader.specs.declared.Header.{Header}
-use Rattle.reader.specs.declared.Parsed.{Parsed}
 
--- the words of a kind, and the kind of a number
 abbrev pub kind_words : List (String × Kind)
 kind_words = ("kind=sem\n", a_semaphore) ∷ ("kind=mutex\n", a_mutex) ∷ ("kind=event\n", an_event) ∷ []
-
-abbrev pub kind_of : ℕ → Kind
-kind_of n = cond (eqb n 1) a_semaphore (cond (eqb n 2) a_mutex an_event)
 
 abbrev pub mode_words : List (String × Mode)
 mode_words = ("mode=any\n", any) ∷ ("mode=all\n", all) ∷ []
 
-abbrev pub mode_of : ℕ → Mode
-mode_of n = cond (eqb n 0) any all
-
 abbrev pub clock_words : List (String × ℕ)
 clock_words = ("clock=mono\n", 0) ∷ ("clock=real\n", 1) ∷ []
 
+-- a kind, and its values
+abbrev pub read_kinded : Reader Object
+read_kinded = word_line kind_words >>= read_values
+
+-- the object that these cells show, and that they are its cells
+abbrev pub object_from : Cells → Object
+object_from x = object_of x.kind x.count x.owner x.attribute
+
+abbrev pub IsObject : Cells → Type 0
+IsObject x = fields_of (object_from x) ≡ cells_of x
+
+abbrev pub mode_of : ℕ → Mode
+mode_of n = cond (eqb n 0) any all
+
 abbrev pub wait_from : Header → List ℕ → Wait
-wait_from r list = record { ticket = r.ticket; mode = mode_of r.mode; owner = r.owner; clock = r.clock; timeout = r.timeout; alert = r.alert; list = take r.n list }
+wait_from x list = record { ticket = x.ticket; mode = mode_of x.mode; owner = x.owner; clock = x.clock; timeout = x.timeout; alert = x.alert; list = take x.listed list }
 
--- THE CONTRACTS of what is read by value: the reader's outcome, and that the cells are the object's
-pub record ReadValues (text : List ℕ) (at : ℕ) (k : Kind) (kind : ℕ) (r : Values) : Type 0 where
-  pub outcome : Outcome text (read_values k (drop at text)) r.ok (object_of kind r.count r.owner r.attribute) r.at
-  pub cells : r.ok ≡ true → fields_of (object_of kind r.count r.owner r.attribute) ≡ fields kind r.count r.owner r.attribute
+-- THE CONTRACTS of what is read by value
+abbrev pub ObjectTold : Read Object → List ℕ → Result Cells NotDue → Type 0
+ObjectTold read rest r = MatchResult r (λ x. (read ≡ good (object_from x) rest) × IsObject x) (λ e. read ≡ bad e.from.now)
 
-pub record ReadObject (text : List ℕ) (at : ℕ) (r : Entry) : Type 0 where
-  pub outcome : Outcome text (read_object (drop at text)) r.ok (r.handle, object_of r.kind r.count r.owner r.attribute) r.at
-  pub cells : r.ok ≡ true → fields_of (object_of r.kind r.count r.owner r.attribute) ≡ fields r.kind r.count r.owner r.attribute
+abbrev pub EntryTold : Read (ℕ × Object) → List ℕ → Result (ℕ × Cells) NotDue → Type 0
+EntryTold read rest r = MatchResult r (λ x. (read ≡ good (x.0, object_from x.1) rest) × IsObject x.1) (λ e. read ≡ bad e.from.now)
 
--- and of what is stored as it is read: the objects that the reader gives, in the tables
-abbrev pub ObjectsRead : List ℕ → List ℕ → Listed → List ℕ → Read (List (ℕ × Object)) → Type 0
-ObjectsRead text t r end (bad from) = (r.ok ≡ false) × (from ≡ drop r.at text)
-ObjectsRead text t r end (good os rest) = (r.ok ≡ true) × (rest ≡ drop r.at text) × (end ≡ stored t os) × (r.rising ≡ rising 0 (handles os))
+abbrev pub WaitTold : Read Wait → List ℕ → List ℕ → Result Header NotDue → Type 0
+WaitTold read list rest r = MatchResult r (λ x. (read ≡ good (wait_from x list) rest) × (mode_cell (mode_of x.mode) ≡ x.mode) × (x.listed ≤ max_listed)) (λ e. read ≡ bad e.from.now)
 
-pub record ReadObjects (text : List ℕ) (at n : ℕ) (t : List ℕ) (r : Listed) (end : List ℕ) : Type 0 where
-  pub objects : ObjectsRead text t r end (times n read_object (drop at text))
-  pub within : r.at ≤ length text
-  pub size : length end ≡ length t
+-- and of what is stored as it is read: the objects, or the waits, that were read are those in the tables
+pub record ObjectsStored (read : Read (List (ℕ × Object))) (t end rest : List ℕ) (in_order : Bool) : Type 0 where
+  pub objects : List (ℕ × Object)
+  pub reads : read ≡ good objects rest
+  pub kept : end ≡ stored t objects
+  pub order : in_order ≡ rising 0 (handles objects)
 
-pub record ReadWait (text : List ℕ) (at : ℕ) (r : Header) (list : List ℕ) : Type 0 where
-  pub outcome : Outcome text (read_wait (drop at text)) r.ok (wait_from r list) r.at
-  pub cell : r.ok ≡ true → mode_cell (mode_of r.mode) ≡ r.mode
-  pub size : r.ok ≡ true → r.n ≤ max_listed
+abbrev pub ObjectsTold : Read (List (ℕ × Object)) → List ℕ → List ℕ → List ℕ → Result Bool NotDue → Type 0
+ObjectsTold read t end rest r = MatchResult r (λ o. ObjectsStored read t end rest o) (λ e. read ≡ bad e.from.now)
 
-abbrev pub WaitsRead : List ℕ → List ℕ → Listed → List ℕ → Read (List Wait) → Type 0
-WaitsRead text t r end (bad from) = (r.ok ≡ false) × (from ≡ drop r.at text)
-WaitsRead text t r end (good ws rest) = (r.ok ≡ true) × (rest ≡ drop r.at text) × (end ≡ queued_from t 0 ws) × (r.rising ≡ rising 0 (tickets ws))
+pub record WaitsStored (read : Read (List Wait)) (t end rest : List ℕ) (in_order : Bool) : Type 0 where
+  pub waits : List Wait
+  pub reads : read ≡ good waits rest
+  pub kept : end ≡ queued_from t 0 waits
+  pub order : in_order ≡ rising 0 (tickets waits)
 
-pub record ReadWaits (text : List ℕ) (at n : ℕ) (t : List ℕ) (r : Listed) (end : List ℕ) : Type 0 where
-  pub waits : WaitsRead text t r end (times n read_wait (drop at text))
-  pub within : r.at ≤ length text
-  pub size : length end ≡ length t
+abbrev pub WaitsTold : Read (List Wait) → List ℕ → List ℕ → List ℕ → Result Bool NotDue → Type 0
+WaitsTold read t end rest r = MatchResult r (λ o. WaitsStored read t end rest o) (λ e. read ≡ bad e.from.now)
 
-abbrev pub AllRead : List ℕ → List ℕ → Parsed → List ℕ → Read Lines → Type 0
-AllRead text t r end (bad from) = (r.ok ≡ false) × (from ≡ drop r.at text)
-AllRead text t r end (good l rest) = (r.ok ≡ true) × (end ≡ queued_from (stored (set t 0 l.next) l.objects) 0 l.waits) × (r.fine ≡ in_order l rest)
+-- all of the text: in order or not, or a line that is not as due
+pub record AllStored (text t end : List ℕ) (fine : Bool) : Type 0 where
+  pub lines : Lines
+  pub rest : List ℕ
+  pub reads : read_snapshot text ≡ good lines rest
+  pub kept : end ≡ queued_from (stored (set t 0 lines.next) lines.objects) 0 lines.waits
+  pub order : fine ≡ in_order lines rest
 
-pub record ReadAll (text : List ℕ) (t : List ℕ) (r : Parsed) (end : List ℕ) : Type 0 where
-  pub lines : AllRead text t r end (read_snapshot text)
-  pub within : r.at ≤ length text
+pub record Stopped (text from : List ℕ) : Type 0 where
+  pub reads : read_snapshot text ≡ bad from
+  pub within : length from ≤ length text
+
+abbrev pub ReadAll : List ℕ → List ℕ → List ℕ → Result Bool NotDue → Type 0
+ReadAll text t end r = MatchResult r (λ fine. AllStored text t end fine) (λ e. Stopped text e.from.now)

@@ -1,28 +1,24 @@
-use borrow.Author.Tests.{not-true, not-false}
-use Prim.Native.Nat.{◌-◌}
-use mathlib.Core.Path.{◌≡◌, refl}
-use lib.ListN.{drop, length-set}
+use Rattle.std.proofs.Common.{◌≡◌, take, take_all, length, arith}
+use Rattle.std.proofs.lemmas.List.{take_more_set}
 use Rattle.model.specs.Sizes.{object_places}
 use Rattle.model.specs.Snapshot.{line}
-use Rattle.lines.specs.Outcome.{number_of}
 use Rattle.model.specs.Reading.{number_line}
-use Rattle.lines.proofs.Laws.{ahead_start, list_all, list_stop, list_more}
-use native.Mathlib.Omega.{arith}
+use Rattle.lines.specs.Outcome.{number_of}
+use Rattle.lines.proofs.Laws.{none_read, next_bad, next_read, all_read}
+use Rattle.reader.proofs.Laws.{on_err}
 use Rattle.reader.proofs.read_list.Goals as goal
 
-pub loop-i-init : goal.loop-i-init
-loop-i-init c = let z : c.args.n - 0 ≡ c.args.n = omega arith in (omega arith, c.requires.0, refl, rw z (ahead_start c.args.text.now (number_line "obj=" 1 object_places) c.args.n (drop c.args.at c.args.text.now)))
+pub loop-handle-init : goal.loop-handle-init
+loop-handle-init c = none_read (number_line "obj=" 1 object_places) _ _
 
-pub returns-then-not-h : goal.returns-then-not-h
+pub returns-in_err-handle : goal.returns-in_err-handle
 unfolding number_line number_of line
-returns-then-not-h c = list_stop c.args.text.now c.args.at c.args.n (number_line "obj=" 1 object_places) c.loop-i.list c.loop-i.pos c.loop-i.i (omega (arith, c.requires.1, c.loop-i.invariant.2)) c.loop-i.invariant.3 c.loop-i-test.true c.number_line-h.ensures _ (not-true _ c.if-not-h.true)
+returns-in_err-handle c = on_err _ _ c.from_residual.result c.from_residual.ensures (next_bad (number_line "obj=" 1 object_places) (length c.args.list.now) _ _ c.loop-handle.handle-index _ c.loop-handle.invariant _ c.loop-handle-test.true c.in_err-handle.ensures)
 
-pub bounds-list-i : goal.bounds-list-i
-bounds-list-i c = omega (arith, c.requires.1, c.loop-i.invariant.2, c.loop-i-test.true)
-
-pub loop-i-preserved : goal.loop-i-preserved
+pub loop-handle-preserved : goal.loop-handle-preserved
 unfolding number_line number_of line
-loop-i-preserved c = (omega arith, c.number_line-h.ensures.within, simp length-set c.loop-i.invariant.2, list_more c.args.text.now c.args.at c.args.n (number_line "obj=" 1 object_places) c.loop-i.list c.loop-i.pos c.loop-i.i (omega (arith, c.requires.1, c.loop-i.invariant.2)) c.loop-i.invariant.3 c.loop-i-test.true c.number_line-h.ensures (not-false _ c.if-not-h.false))
+loop-handle-preserved c = let l = c.loop-handle in
+    rw (take_more_set l.list l.handle-index c.in_ok-handle.field-0 (omega arith)) (next_read (number_line "obj=" 1 object_places) (length c.args.list.now) _ _ l.handle-index _ l.invariant c.in_ok-handle.field-0 _ c.loop-handle-test.true c.in_ok-handle.ensures)
 
 pub returns : goal.returns
-returns c = list_all c.args.text.now c.args.at c.args.n (number_line "obj=" 1 object_places) c.loop-i.list c.loop-i.pos c.loop-i.i (omega (arith, c.requires.1, c.loop-i.invariant.2)) c.loop-i.invariant.3 (omega arith) c.loop-i.invariant.0 c.loop-i.invariant.1
+returns c = let l = c.loop-handle in let whole : take l.handle-index l.list ≡ l.list = take_all l.handle-index l.list (omega arith) in rw whole at (all_read (number_line "obj=" 1 object_places) (length c.args.list.now) _ _ l.handle-index _ l.invariant c.loop-handle-test.false)

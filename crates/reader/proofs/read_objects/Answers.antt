@@ -1,17 +1,14 @@
-use borrow.Author.Tests.{not-true, not-false}
-use mathlib.Core.Path.{refl}
-use Rattle.reader.proofs.Laws.{going_start, going_stop, going_more, going_end}
-use native.Mathlib.Omega.{arith}
+use Rattle.reader.proofs.Laws.{on_err, none_stored, object_bad, object_stored, objects_stored}
 use Rattle.reader.proofs.read_objects.Goals as goal
 
-pub loop-i-init : goal.loop-i-init
-loop-i-init c = (c.requires.0, refl, omega arith, going_start c.args.text.now c.args.at c.args.n c.args.t.now)
+pub loop-init : goal.loop-init
+loop-init c = none_stored c.args.n c.args.lines.now.rest.now c.args.t.now
 
-pub returns-then-not-x : goal.returns-then-not-x
-returns-then-not-x c = going_stop c.args.text.now c.args.at c.args.n c.args.t.now c.loop-i.t c.loop-i.pos c.loop-i.last c.loop-i.rising c.loop-i.i c.loop-i.invariant.3 _ _ c.loop-i.invariant.1 c.loop-i-test.true c.read_object-x.ensures.outcome (not-true _ c.if-not-x.true) refl refl
+pub returns-in_err-handle : goal.returns-in_err-handle
+returns-in_err-handle c = let l = c.loop in on_err _ _ c.from_residual.result c.from_residual.ensures (object_bad c.args.n _ c.args.t.now l.t l.counter _ l.rising l.last l.invariant _ c.loop-test.true c.in_err-handle.ensures)
 
-pub loop-i-preserved : goal.loop-i-preserved
-loop-i-preserved c = (c.read_object-x.ensures.outcome.within, omega arith, omega arith, going_more c.args.text.now c.args.at c.args.n c.args.t.now c.loop-i.t c.loop-i.pos c.loop-i.last c.loop-i.rising c.loop-i.i c.loop-i.invariant.3 _ _ c.loop-i-test.true c.read_object-x.ensures.outcome (not-false _ c.if-not-x.false) (c.read_object-x.ensures.cells (not-false _ c.if-not-x.false)) c.store.ensures)
+pub loop-preserved : goal.loop-preserved
+loop-preserved c = let l = c.loop in let e = c.in_ok-handle.ensures in object_stored c.args.n _ c.args.t.now l.t l.counter _ l.rising l.last l.invariant c.in_ok-handle.handle c.in_ok-handle.object _ _ c.loop-test.true e.0 e.1 c.store.ensures
 
 pub returns : goal.returns
-returns c = going_end c.args.text.now c.args.at c.args.n c.args.t.now c.loop-i.t c.loop-i.pos c.loop-i.last c.loop-i.rising c.loop-i.i c.loop-i.invariant.3 _ c.loop-i.invariant.1 (omega arith) c.loop-i.invariant.0 refl refl refl
+returns c = let l = c.loop in objects_stored c.args.n _ c.args.t.now l.t l.counter _ l.rising l.last l.invariant c.loop-test.false

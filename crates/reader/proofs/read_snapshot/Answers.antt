@@ -1,61 +1,45 @@
-use mathlib.Core.Path.{◌∙◌, ap, sym}
-use lib.ListN.{length, length-set, drop}
-use lib.Seq.{length-take-le}
-use borrow.Author.Tests.{not-true, not-false}
+use Rattle.std.proofs.Common.{◌∙◌, arith}
 use Rattle.model.specs.Sizes.{wait_places}
 use Rattle.model.specs.Snapshot.{line}
-use Rattle.model.specs.Reading.{number_line}
+use Rattle.model.specs.Reading.{◌>>=◌, number_line, read_snapshot}
 use Rattle.lines.specs.Outcome.{number_of}
 use Rattle.lines.proofs.Laws.{number_most}
-use Rattle.reader.proofs.Whole.{stop_1, stop_2, stop_3, stop_4, stop_5, stop_6, all_good}
+use Rattle.reader.proofs.Laws.{on_err}
+use Rattle.reader.proofs.Whole.{stopped, body_within, sum_bad, all_stored}
 use Rattle.reader.proofs.read_snapshot.Goals as goal
 
-pub returns-then-not-next : goal.returns-then-not-next
+pub returns-in_err-next : goal.returns-in_err-next
+unfolding read_snapshot ◌>>=◌ number_line number_of line
+returns-in_err-next c = on_err _ _ c.from_residual.result c.from_residual.ensures (stopped c.args.text.now _ (rw c.in_err-next.ensures))
+
+pub returns-in_err-objects : goal.returns-in_err-objects
+unfolding read_snapshot ◌>>=◌ number_line number_of line
+returns-in_err-objects c = on_err _ _ c.from_residual-in_err-objects.result c.from_residual-in_err-objects.ensures (stopped c.args.text.now _ (rw (c.in_ok-next.ensures, c.in_err-objects.ensures)))
+
+pub returns-in_err-handles_rise : goal.returns-in_err-handles_rise
+unfolding read_snapshot ◌>>=◌ number_line number_of line
+returns-in_err-handles_rise c = on_err _ _ c.from_residual-in_err-handles_rise.result c.from_residual-in_err-handles_rise.ensures (stopped c.args.text.now _ (rw (c.in_ok-next.ensures, c.in_ok-objects.ensures, c.in_err-handles_rise.ensures)))
+
+pub returns-in_err-waits : goal.returns-in_err-waits
+unfolding read_snapshot ◌>>=◌ number_line number_of line
+returns-in_err-waits c = on_err _ _ c.from_residual-in_err-waits.result c.from_residual-in_err-waits.ensures (stopped c.args.text.now _ (rw (c.in_ok-next.ensures, c.in_ok-objects.ensures, c.in_ok-handles_rise.ensures.reads, c.in_err-waits.ensures)))
+
+pub read_waits-requires : goal.read_waits-requires
 unfolding number_line number_of line
-returns-then-not-next c = rw c.unread.ensures (stop_1 c.args.text.now c.args.t.now _ c.number_line-next.ensures (not-true _ c.if-not-next.true))
+read_waits-requires c = (omega arith, number_most "waits=" 0 wait_places c.read_objects.new.lines.rest.now c.in_ok-waits.ensures)
 
-pub returns-then-not-k : goal.returns-then-not-k
+pub returns-in_err-tickets_rise : goal.returns-in_err-tickets_rise
+unfolding read_snapshot ◌>>=◌ number_line number_of line
+returns-in_err-tickets_rise c = on_err _ _ c.from_residual-in_err-tickets_rise.result c.from_residual-in_err-tickets_rise.ensures (stopped c.args.text.now _ (rw (c.in_ok-next.ensures, c.in_ok-objects.ensures, c.in_ok-handles_rise.ensures.reads, c.in_ok-waits.ensures, c.in_err-tickets_rise.ensures)))
+
+pub slice_bounds-body-count : goal.slice_bounds-body-count
 unfolding number_line number_of line
-returns-then-not-k c = rw c.unread-then-not-k.ensures (stop_2 c.args.text.now c.args.t.now _ c.number_line-next.ensures (not-false _ c.if-not-next.false) c.number_line-k.ensures (not-true _ c.if-not-k.true))
+slice_bounds-body-count c = body_within c.args.text.now c.args.t.now c.in_ok-next.ensures c.in_ok-objects.ensures _ _ (rw c.put_next.ensures at c.in_ok-handles_rise.ensures) c.in_ok-waits.ensures _ _ c.in_ok-tickets_rise.ensures
 
-pub shape_of-t-then-not-os : goal.shape_of-t-then-not-os
-shape_of-t-then-not-os c = (c.read_objects-os.ensures.size ∙ (ap length c.put_next.ensures ∙ length-set c.args.t.now 0 c.number_line-next.result.value))
-
-pub returns-then-not-os : goal.returns-then-not-os
+pub returns-in_err-sum : goal.returns-in_err-sum
 unfolding number_line number_of line
-returns-then-not-os c = rw c.unread-then-not-os.ensures (stop_3 c.args.text.now c.args.t.now _ c.number_line-next.ensures (not-false _ c.if-not-next.false) c.number_line-k.ensures (not-false _ c.if-not-k.false) c.read_objects-os.result _ (rw c.put_next.ensures at c.read_objects-os.ensures) (not-true _ c.if-not-os.true))
-
-pub shape_of-t-then-not-m : goal.shape_of-t-then-not-m
-shape_of-t-then-not-m c = (c.read_objects-os.ensures.size ∙ (ap length c.put_next.ensures ∙ length-set c.args.t.now 0 c.number_line-next.result.value))
-
-pub returns-then-not-m : goal.returns-then-not-m
-unfolding number_line number_of line
-returns-then-not-m c = rw c.unread-then-not-m.ensures (stop_4 c.args.text.now c.args.t.now _ c.number_line-next.ensures (not-false _ c.if-not-next.false) c.number_line-k.ensures (not-false _ c.if-not-k.false) c.read_objects-os.result _ (rw c.put_next.ensures at c.read_objects-os.ensures) (not-false _ c.if-not-os.false) c.number_line-m.ensures (not-true _ c.if-not-m.true))
-
-pub read_waits-ws-requires : goal.read_waits-ws-requires
-unfolding number_line number_of line
-read_waits-ws-requires c = let b = number_most "waits=" 0 wait_places c.args.text.now (drop c.read_objects-os.result.at c.args.text.now) c.number_line-m.ensures (not-false _ c.if-not-m.false) in (c.number_line-m.ensures.within, (c.read_objects-os.ensures.size ∙ (ap length c.put_next.ensures ∙ length-set c.args.t.now 0 c.number_line-next.result.value)) ∙ c.requires, b)
-
-pub shape_of-t-then-not-ws : goal.shape_of-t-then-not-ws
-shape_of-t-then-not-ws c = (c.read_waits-ws.ensures.size ∙ (c.read_objects-os.ensures.size ∙ (ap length c.put_next.ensures ∙ length-set c.args.t.now 0 c.number_line-next.result.value)))
-
-pub returns-then-not-ws : goal.returns-then-not-ws
-unfolding number_line number_of line
-returns-then-not-ws c = rw c.unread-then-not-ws.ensures (stop_5 c.args.text.now c.args.t.now _ c.number_line-next.ensures (not-false _ c.if-not-next.false) c.number_line-k.ensures (not-false _ c.if-not-k.false) c.read_objects-os.result _ (rw c.put_next.ensures at c.read_objects-os.ensures) (not-false _ c.if-not-os.false) c.number_line-m.ensures (not-false _ c.if-not-m.false) c.read_waits-ws.result _ c.read_waits-ws.ensures (not-true _ c.if-not-ws.true))
-
-pub shape_of-t-then-not-u : goal.shape_of-t-then-not-u
-shape_of-t-then-not-u c = (c.read_waits-ws.ensures.size ∙ (c.read_objects-os.ensures.size ∙ (ap length c.put_next.ensures ∙ length-set c.args.t.now 0 c.number_line-next.result.value)))
-
-pub returns-then-not-u : goal.returns-then-not-u
-unfolding number_line number_of line
-returns-then-not-u c = rw c.unread-then-not-u.ensures (stop_6 c.args.text.now c.args.t.now _ c.number_line-next.ensures (not-false _ c.if-not-next.false) c.number_line-k.ensures (not-false _ c.if-not-k.false) c.read_objects-os.result _ (rw c.put_next.ensures at c.read_objects-os.ensures) (not-false _ c.if-not-os.false) c.number_line-m.ensures (not-false _ c.if-not-m.false) c.read_waits-ws.result _ c.read_waits-ws.ensures (not-false _ c.if-not-ws.false) c.number_line-u.ensures (not-true _ c.if-not-u.true))
-
-pub slice_bounds-byte_sum-end : goal.slice_bounds-byte_sum-end
-slice_bounds-byte_sum-end c = sym (length-take-le _ _ c.read_waits-ws.ensures.within)
-
-pub shape_of-t : goal.shape_of-t
-shape_of-t c = (c.read_waits-ws.ensures.size ∙ (c.read_objects-os.ensures.size ∙ (ap length c.put_next.ensures ∙ length-set c.args.t.now 0 c.number_line-next.result.value)))
+returns-in_err-sum c = on_err _ _ c.from_residual-in_err-sum.result c.from_residual-in_err-sum.ensures (stopped c.args.text.now _ (sum_bad c.args.text.now c.args.t.now c.in_ok-next.ensures c.in_ok-objects.ensures _ _ (rw c.put_next.ensures at c.in_ok-handles_rise.ensures) c.in_ok-waits.ensures _ _ c.in_ok-tickets_rise.ensures _ c.in_err-sum.ensures))
 
 pub returns : goal.returns
 unfolding number_line number_of line
-returns c = all_good c.args.text.now c.args.t.now c.args.t.now c.number_line-next.ensures (not-false _ c.if-not-next.false) c.number_line-k.ensures (not-false _ c.if-not-k.false) c.read_objects-os.result _ (rw c.put_next.ensures at c.read_objects-os.ensures) (not-false _ c.if-not-os.false) c.number_line-m.ensures (not-false _ c.if-not-m.false) c.read_waits-ws.result _ c.read_waits-ws.ensures (not-false _ c.if-not-ws.false) c.number_line-u.ensures (not-false _ c.if-not-u.false) c.wide-sum.result (c.wide-sum.ensures ∙ c.byte_sum.ensures)
+returns c = all_stored c.args.text.now c.args.t.now c.in_ok-next.ensures c.in_ok-objects.ensures _ _ (rw c.put_next.ensures at c.in_ok-handles_rise.ensures) c.in_ok-waits.ensures _ _ c.in_ok-tickets_rise.ensures c.in_ok-sum.ensures (c.from.ensures ∙ c.byte_sum.ensures) c.is_empty.ensures

@@ -1,49 +1,49 @@
-use borrow.Author.Tests.{not-true, not-false}
-use Rattle.model.specs.Sizes.{never, object_places, max_listed}
+use Rattle.std.proofs.Common.{◌≡◌, ℕ, length, take, sym, ◌∙◌, arith, length-take-le}
+use Rattle.model.specs.Waits.{any, all}
+use Rattle.model.specs.Sizes.{max_listed}
 use Rattle.model.specs.Snapshot.{line}
-use Rattle.model.specs.Reading.{number_line, number32_line, word_line, times, read_wait}
+use Rattle.model.specs.Reading.{◌>>=◌, give, number_line, read_wait}
 use Rattle.lines.specs.Outcome.{number_of}
-use Rattle.reader.specs.Values.{mode_words, clock_words, mode_of}
-use lib.ListN.{drop}
-use mathlib.Core.Path.{refl}
-use Rattle.model.proofs.Logic.{clash}
-use Rattle.lines.proofs.Laws.{seq_stop, seq_on, seq_last, number_most, either_low}
-use Rattle.reader.proofs.Laws.{mode_one, mode_read, clock_read}
-use native.Mathlib.Omega.{arith}
+use Rattle.lines.proofs.Laws.{either_bad, number_most}
+use Rattle.reader.proofs.Laws.{on_err, taken, mode_read, mode_is, clock_read}
 use Rattle.reader.proofs.read_wait.Goals as goal
 
-pub returns-then-not-t : goal.returns-then-not-t
-unfolding read_wait number_line number_of line
-returns-then-not-t c = rw c.no_header.ensures (record { outcome = seq_stop c.args.text.now (number_line "wait=" 1 never) _ (drop c.args.at c.args.text.now) c.number_line-t.ensures _ (not-true _ c.if-not-t.true); cell = λ y. clash y refl; size = λ y. clash y refl })
+pub returns-in_err-ticket : goal.returns-in_err-ticket
+unfolding read_wait ◌>>=◌ give number_line number_of line
+returns-in_err-ticket c = on_err _ _ c.from_residual.result c.from_residual.ensures (rw c.in_err-ticket.ensures)
 
-pub returns-then-not-m : goal.returns-then-not-m
-unfolding read_wait number_line number_of line
-returns-then-not-m c = rw c.no_header-then-not-m.ensures (record { outcome = seq_on c.args.text.now (number_line "wait=" 1 never) _ (drop c.args.at c.args.text.now) c.number_line-t.ensures (not-false _ c.if-not-t.false) (seq_stop c.args.text.now (word_line mode_words) _ (drop c.number_line-t.result.at c.args.text.now) (mode_read _ _ c.either-m.ensures) _ (not-true _ c.if-not-m.true)); cell = λ y. clash y refl; size = λ y. clash y refl })
+pub returns-in_err-either : goal.returns-in_err-either
+unfolding read_wait ◌>>=◌ give number_line number_of line
+returns-in_err-either c = on_err _ _ c.from_residual-in_err-either.result c.from_residual-in_err-either.ensures (rw (c.in_ok-ticket.ensures, either_bad "mode=any\n" "mode=all\n" any all c.number.new.self.rest.now c.in_err-either.ensures))
 
-pub returns-then-not-o : goal.returns-then-not-o
-unfolding read_wait number_line number_of line
-returns-then-not-o c = rw c.no_header-then-not-o.ensures (record { outcome = seq_on c.args.text.now (number_line "wait=" 1 never) _ (drop c.args.at c.args.text.now) c.number_line-t.ensures (not-false _ c.if-not-t.false) (seq_on c.args.text.now (word_line mode_words) _ (drop c.number_line-t.result.at c.args.text.now) (mode_read _ _ c.either-m.ensures) (not-false _ c.if-not-m.false) (seq_stop c.args.text.now (number32_line "owner=") _ (drop c.either-m.result.at c.args.text.now) c.number_line-o.ensures _ (not-true _ c.if-not-o.true))); cell = λ y. clash y refl; size = λ y. clash y refl })
+pub returns-in_err-owner : goal.returns-in_err-owner
+unfolding read_wait ◌>>=◌ give number_line number_of line
+returns-in_err-owner c = on_err _ _ c.from_residual-in_err-owner.result c.from_residual-in_err-owner.ensures (rw (c.in_ok-ticket.ensures, mode_read c.in_ok-either.field-0 c.number.new.self.rest.now c.from-mode.ensures c.in_ok-either.ensures, c.in_err-owner.ensures))
 
-pub returns-then-not-c : goal.returns-then-not-c
-unfolding read_wait number_line number_of line
-returns-then-not-c c = rw c.no_header-then-not-c.ensures (record { outcome = seq_on c.args.text.now (number_line "wait=" 1 never) _ (drop c.args.at c.args.text.now) c.number_line-t.ensures (not-false _ c.if-not-t.false) (seq_on c.args.text.now (word_line mode_words) _ (drop c.number_line-t.result.at c.args.text.now) (mode_read _ _ c.either-m.ensures) (not-false _ c.if-not-m.false) (seq_on c.args.text.now (number32_line "owner=") _ (drop c.either-m.result.at c.args.text.now) c.number_line-o.ensures (not-false _ c.if-not-o.false) (seq_stop c.args.text.now (word_line clock_words) _ (drop c.number_line-o.result.at c.args.text.now) (clock_read _ _ c.either-c.ensures) _ (not-true _ c.if-not-c.true)))); cell = λ y. clash y refl; size = λ y. clash y refl })
+pub returns-in_err-either-2 : goal.returns-in_err-either-2
+unfolding read_wait ◌>>=◌ give number_line number_of line
+returns-in_err-either-2 c = on_err _ _ c.from_residual-in_err-either-2.result c.from_residual-in_err-either-2.ensures (rw (c.in_ok-ticket.ensures, mode_read c.in_ok-either.field-0 c.number.new.self.rest.now c.from-mode.ensures c.in_ok-either.ensures, c.in_ok-owner.ensures, either_bad {A = ℕ} "clock=mono\n" "clock=real\n" 0 1 c.number-2.new.self.rest.now c.in_err-either-2.ensures))
 
-pub returns-then-not-e : goal.returns-then-not-e
-unfolding read_wait number_line number_of line
-returns-then-not-e c = rw c.no_header-then-not-e.ensures (record { outcome = seq_on c.args.text.now (number_line "wait=" 1 never) _ (drop c.args.at c.args.text.now) c.number_line-t.ensures (not-false _ c.if-not-t.false) (seq_on c.args.text.now (word_line mode_words) _ (drop c.number_line-t.result.at c.args.text.now) (mode_read _ _ c.either-m.ensures) (not-false _ c.if-not-m.false) (seq_on c.args.text.now (number32_line "owner=") _ (drop c.either-m.result.at c.args.text.now) c.number_line-o.ensures (not-false _ c.if-not-o.false) (seq_on c.args.text.now (word_line clock_words) _ (drop c.number_line-o.result.at c.args.text.now) (clock_read _ _ c.either-c.ensures) (not-false _ c.if-not-c.false) (seq_stop c.args.text.now (number_line "timeout=" 0 never) _ (drop c.either-c.result.at c.args.text.now) c.number_line-e.ensures _ (not-true _ c.if-not-e.true))))); cell = λ y. clash y refl; size = λ y. clash y refl })
+pub returns-in_err-timeout : goal.returns-in_err-timeout
+unfolding read_wait ◌>>=◌ give number_line number_of line
+returns-in_err-timeout c = on_err _ _ c.from_residual-in_err-timeout.result c.from_residual-in_err-timeout.ensures (rw (c.in_ok-ticket.ensures, mode_read c.in_ok-either.field-0 c.number.new.self.rest.now c.from-mode.ensures c.in_ok-either.ensures, c.in_ok-owner.ensures, clock_read c.in_ok-either-2.field-0 c.number-2.new.self.rest.now c.from-clock.ensures c.in_ok-either-2.ensures, c.in_err-timeout.ensures))
 
-pub returns-then-not-a : goal.returns-then-not-a
-unfolding read_wait number_line number_of line
-returns-then-not-a c = rw c.no_header-then-not-a.ensures (record { outcome = seq_on c.args.text.now (number_line "wait=" 1 never) _ (drop c.args.at c.args.text.now) c.number_line-t.ensures (not-false _ c.if-not-t.false) (seq_on c.args.text.now (word_line mode_words) _ (drop c.number_line-t.result.at c.args.text.now) (mode_read _ _ c.either-m.ensures) (not-false _ c.if-not-m.false) (seq_on c.args.text.now (number32_line "owner=") _ (drop c.either-m.result.at c.args.text.now) c.number_line-o.ensures (not-false _ c.if-not-o.false) (seq_on c.args.text.now (word_line clock_words) _ (drop c.number_line-o.result.at c.args.text.now) (clock_read _ _ c.either-c.ensures) (not-false _ c.if-not-c.false) (seq_on c.args.text.now (number_line "timeout=" 0 never) _ (drop c.either-c.result.at c.args.text.now) c.number_line-e.ensures (not-false _ c.if-not-e.false) (seq_stop c.args.text.now (number_line "alert=" 0 object_places) _ (drop c.number_line-e.result.at c.args.text.now) c.number_line-a.ensures _ (not-true _ c.if-not-a.true)))))); cell = λ y. clash y refl; size = λ y. clash y refl })
+pub returns-in_err-alert : goal.returns-in_err-alert
+unfolding read_wait ◌>>=◌ give number_line number_of line
+returns-in_err-alert c = on_err _ _ c.from_residual-in_err-alert.result c.from_residual-in_err-alert.ensures (rw (c.in_ok-ticket.ensures, mode_read c.in_ok-either.field-0 c.number.new.self.rest.now c.from-mode.ensures c.in_ok-either.ensures, c.in_ok-owner.ensures, clock_read c.in_ok-either-2.field-0 c.number-2.new.self.rest.now c.from-clock.ensures c.in_ok-either-2.ensures, c.in_ok-timeout.ensures, c.in_err-alert.ensures))
 
-pub returns-then-not-n : goal.returns-then-not-n
-unfolding read_wait number_line number_of line
-returns-then-not-n c = rw c.no_header-then-not-n.ensures (record { outcome = seq_on c.args.text.now (number_line "wait=" 1 never) _ (drop c.args.at c.args.text.now) c.number_line-t.ensures (not-false _ c.if-not-t.false) (seq_on c.args.text.now (word_line mode_words) _ (drop c.number_line-t.result.at c.args.text.now) (mode_read _ _ c.either-m.ensures) (not-false _ c.if-not-m.false) (seq_on c.args.text.now (number32_line "owner=") _ (drop c.either-m.result.at c.args.text.now) c.number_line-o.ensures (not-false _ c.if-not-o.false) (seq_on c.args.text.now (word_line clock_words) _ (drop c.number_line-o.result.at c.args.text.now) (clock_read _ _ c.either-c.ensures) (not-false _ c.if-not-c.false) (seq_on c.args.text.now (number_line "timeout=" 0 never) _ (drop c.either-c.result.at c.args.text.now) c.number_line-e.ensures (not-false _ c.if-not-e.false) (seq_on c.args.text.now (number_line "alert=" 0 object_places) _ (drop c.number_line-e.result.at c.args.text.now) c.number_line-a.ensures (not-false _ c.if-not-a.false) (seq_stop c.args.text.now (number_line "n=" 0 max_listed) _ (drop c.number_line-a.result.at c.args.text.now) c.number_line-n.ensures _ (not-true _ c.if-not-n.true))))))); cell = λ y. clash y refl; size = λ y. clash y refl })
+pub returns-in_err-listed : goal.returns-in_err-listed
+unfolding read_wait ◌>>=◌ give number_line number_of line
+returns-in_err-listed c = on_err _ _ c.from_residual-in_err-listed.result c.from_residual-in_err-listed.ensures (rw (c.in_ok-ticket.ensures, mode_read c.in_ok-either.field-0 c.number.new.self.rest.now c.from-mode.ensures c.in_ok-either.ensures, c.in_ok-owner.ensures, clock_read c.in_ok-either-2.field-0 c.number-2.new.self.rest.now c.from-clock.ensures c.in_ok-either-2.ensures, c.in_ok-timeout.ensures, c.in_ok-alert.ensures, c.in_err-listed.ensures))
 
-pub read_list-l-requires : goal.read_list-l-requires
+pub slice_bounds-named-end : goal.slice_bounds-named-end
 unfolding number_line number_of line
-read_list-l-requires c = let b = number_most "n=" 0 max_listed c.args.text.now (drop c.number_line-a.result.at c.args.text.now) c.number_line-n.ensures (not-false _ c.if-not-n.false) in (c.number_line-n.ensures.within, omega (arith, c.requires.1))
+slice_bounds-named-end c = number_most "n=" 0 max_listed c.number-4.new.self.rest.now c.in_ok-listed.ensures
+
+pub returns-in_err-read_list : goal.returns-in_err-read_list
+unfolding read_wait ◌>>=◌ give number_line number_of line
+returns-in_err-read_list c = let long : length (take c.in_ok-listed.listed c.args.list.now) ≡ c.in_ok-listed.listed = length-take-le c.in_ok-listed.listed c.args.list.now (omega (arith, c.told-list, number_most "n=" 0 max_listed c.number-4.new.self.rest.now c.in_ok-listed.ensures)) in on_err _ _ c.from_residual-in_err-read_list.result c.from_residual-in_err-read_list.ensures (rw (c.in_ok-ticket.ensures, mode_read c.in_ok-either.field-0 c.number.new.self.rest.now c.from-mode.ensures c.in_ok-either.ensures, c.in_ok-owner.ensures, clock_read c.in_ok-either-2.field-0 c.number-2.new.self.rest.now c.from-clock.ensures c.in_ok-either-2.ensures, c.in_ok-timeout.ensures, c.in_ok-alert.ensures, c.in_ok-listed.ensures, (rw long at c.in_err-read_list.ensures)))
 
 pub returns : goal.returns
-unfolding read_wait number_line number_of line
-returns c = rw c.with_list.ensures (record { outcome = seq_on c.args.text.now (number_line "wait=" 1 never) _ (drop c.args.at c.args.text.now) c.number_line-t.ensures (not-false _ c.if-not-t.false) (seq_on c.args.text.now (word_line mode_words) _ (drop c.number_line-t.result.at c.args.text.now) (mode_read _ _ c.either-m.ensures) (not-false _ c.if-not-m.false) (seq_on c.args.text.now (number32_line "owner=") _ (drop c.either-m.result.at c.args.text.now) c.number_line-o.ensures (not-false _ c.if-not-o.false) (seq_on c.args.text.now (word_line clock_words) _ (drop c.number_line-o.result.at c.args.text.now) (clock_read _ _ c.either-c.ensures) (not-false _ c.if-not-c.false) (seq_on c.args.text.now (number_line "timeout=" 0 never) _ (drop c.either-c.result.at c.args.text.now) c.number_line-e.ensures (not-false _ c.if-not-e.false) (seq_on c.args.text.now (number_line "alert=" 0 object_places) _ (drop c.number_line-e.result.at c.args.text.now) c.number_line-a.ensures (not-false _ c.if-not-a.false) (seq_on c.args.text.now (number_line "n=" 0 max_listed) _ (drop c.number_line-a.result.at c.args.text.now) c.number_line-n.ensures (not-false _ c.if-not-n.false) (seq_last c.args.text.now (times c.number_line-n.result.value (number_line "obj=" 1 object_places)) (λ l. record { ticket = c.number_line-t.result.value; mode = mode_of c.either-m.result.value; owner = c.number_line-o.result.value; clock = c.either-c.result.value; timeout = c.number_line-e.result.value; alert = c.number_line-a.result.value; list = l }) (drop c.number_line-n.result.at c.args.text.now) c.read_list-l.ensures))))))); cell = λ y. mode_one c.either-m.result.value (either_low _ _ _ _ c.either-m.ensures (not-false _ c.if-not-m.false)); size = λ y. number_most "n=" 0 max_listed c.args.text.now (drop c.number_line-a.result.at c.args.text.now) c.number_line-n.ensures (not-false _ c.if-not-n.false) })
+unfolding read_wait ◌>>=◌ give number_line number_of line
+returns c = let long : length (take c.in_ok-listed.listed c.args.list.now) ≡ c.in_ok-listed.listed = length-take-le c.in_ok-listed.listed c.args.list.now (omega (arith, c.told-list, number_most "n=" 0 max_listed c.number-4.new.self.rest.now c.in_ok-listed.ensures)) in (rw (c.in_ok-ticket.ensures, mode_read c.in_ok-either.field-0 c.number.new.self.rest.now c.from-mode.ensures c.in_ok-either.ensures, c.in_ok-owner.ensures, clock_read c.in_ok-either-2.field-0 c.number-2.new.self.rest.now c.from-clock.ensures c.in_ok-either-2.ensures, c.in_ok-timeout.ensures, c.in_ok-alert.ensures, c.in_ok-listed.ensures, (rw long at c.in_ok-read_list.ensures)) (rw (taken c.in_ok-listed.listed c.read_list.new.list _ (sym (c.read_list.auto.list ∙ long)))), mode_is c.in_ok-either.field-0 c.from-mode.ensures, number_most "n=" 0 max_listed c.number-4.new.self.rest.now c.in_ok-listed.ensures)
