@@ -1,7 +1,7 @@
 -- What the writer's definitions come to on each way through the code.
 use Prim.Native.Nat.{ℕ, zero, suc, ◌+◌, ◌-◌, ◌%◌, ◌≤◌, ◌<◌}
 use mathlib.Core.Path.{◌≡◌, refl, sym, ap, ◌∙◌}
-use mathlib.Core.Bool.{Bool, true, false, cond}
+use mathlib.Core.Bool.{Bool, true, false}
 use mathlib.Core.List.{List, [], ◌++◌}
 use mathlib.Core.Logic.{⊎_elim}
 use native.Mathlib.Omega.{arith}
@@ -9,11 +9,11 @@ use native.Mathlib.Nat.{add-zero, le_refl, eq-or-lt_of_le, le_of_suc-le-suc}
 use native.Mathlib.Numerals.{add-one}
 use borrow.Author.Tests.{ne_eqb, lt-ltb, le-ltb}
 use lib.ListN.{length, take, length-append}
-use lib.Dec.{eqb}
 use Rattle.model.specs.Snapshot.{line, byte_sum}
 use Rattle.cells.specs.Fold.{fold_below}
 use Rattle.cells.proofs.Fold.{fold_none, fold_more}
 use Rattle.model.specs.Basics.{bit}
+use Rattle.std.specs.Int.{from_bool}
 use Rattle.cells.specs.Objects.{Fields}
 use Rattle.cells.specs.Snapshot.{semaphore_text, mutex_text, event_text, fields_text, objects_text_below, object_total, wait_total, wait_lines, wait_text_at, waits_text_from, body_of, snapshot_of}
 use Rattle.cells.specs.Waits.{next_ticket, ticket_at, mode_at, owner_at, clock_at, timeout_at, alert_at, list_of, next_wait}
@@ -95,26 +95,11 @@ module _ (h : ℕ) (x : Fields) where
   unfolding fields_text
   text_empty a b c = rw (ne_eqb x.kind 1 a, ne_eqb x.kind 2 b, ne_eqb x.kind 3 c)
 
--- a word for a cell, 0 or not: room for the one that is written, and what it leaves
-module _ (n : ℕ) (zero_word other_word : List ℕ) (buf : List ℕ) (at : ℕ) where
-  abbrev word : List ℕ
-  word = cond (eqb n 0) zero_word other_word
-
-  module _ (e : n ≡ 0) where
-    pub zero_room : Room buf at word → Room buf at zero_word
-    zero_room h = rw e at h
-
-    pub zero_wrote : {r : ℕ} {end : List ℕ} → Wrote buf at zero_word r end → Wrote buf at word r end
-    zero_wrote w = rw e w
-
-  module _ (e : n ≡ 0 → ⊥) where
-    pub other_room : Room buf at word → Room buf at other_word
-    other_room h = rw (ne_eqb n 0 e) at h
-
-    pub other_wrote : {r : ℕ} {end : List ℕ} → Wrote buf at other_word r end → Wrote buf at word r end
-    other_wrote w = rw (ne_eqb n 0 e) w
-
 -- counting
+pub from_bit : (b : Bool) → from_bool b ≡ bit b
+from_bit true = refl
+from_bit false = refl
+
 bit_low : (b : Bool) → bit b ≤ 1
 bit_low true = omega arith
 bit_low false = omega arith

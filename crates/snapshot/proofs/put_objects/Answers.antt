@@ -5,19 +5,18 @@ use Rattle.model.specs.Sizes.{object_places}
 use mathlib.Core.Path.{refl}
 use Prim.Native.Nat.{◌+◌}
 use native.Mathlib.Omega.{arith}
-use borrow.Author.Rules.{rules}
 use Rattle.snapshot.proofs.put_objects.Goals as goal
 
 pub loop-p-init : goal.loop-p-init
-loop-p-init c = let a = c.args in (search rules, refl, text_start (λ p. fields_text (p + 1) (fields_at a.t.now p)) a.buf.now a.at)
+loop-p-init c = let a = c.args in (refl, text_start (λ p. fields_text (p + 1) (fields_at a.t.now p)) a.buf.now a.at)
 
 pub put_object-end-requires : goal.put_object-end-requires
 unfolding objects_text_below
-put_object-end-requires c = let a = c.args in rw c.object_at-o.ensures (text_room (λ p. fields_text (p + 1) (fields_at a.t.now p)) a.buf.now a.at c.loop-p.p c.loop-p.invariant.2 object_places c.loop-p-test.true c.requires.1)
+put_object-end-requires c = let a = c.args in rw c.object_at-o.ensures (text_room (λ p. fields_text (p + 1) (fields_at a.t.now p)) a.buf.now a.at c.loop-p.p c.loop-p.invariant.1 object_places c.loop-p-test.true c.requires)
 
 pub loop-p-preserved : goal.loop-p-preserved
-loop-p-preserved c = let a = c.args in (search rules, omega (arith, c.put_object-end.auto.buf, c.loop-p.invariant.1), text_more (λ p. fields_text (p + 1) (fields_at a.t.now p)) a.buf.now a.at c.loop-p.p c.loop-p.invariant.2 (rw c.object_at-o.ensures at c.put_object-end.ensures))
+loop-p-preserved c = let a = c.args in (omega (arith, c.put_object-end.auto.buf, c.loop-p.invariant.0), text_more (λ p. fields_text (p + 1) (fields_at a.t.now p)) a.buf.now a.at c.loop-p.p c.loop-p.invariant.1 (rw c.object_at-o.ensures at c.put_object-end.ensures))
 
 pub returns : goal.returns
 unfolding objects_text_below
-returns c = let a = c.args in text_end (λ p. fields_text (p + 1) (fields_at a.t.now p)) a.buf.now a.at c.loop-p.p c.loop-p.invariant.2 object_places (omega arith)
+returns c = let a = c.args in text_end (λ p. fields_text (p + 1) (fields_at a.t.now p)) a.buf.now a.at c.loop-p.p c.loop-p.invariant.1 object_places (omega arith)
