@@ -1,14 +1,13 @@
 -- What a wait's definitions come to on each way through the code.
 use Prim.Native.Nat.{ℕ, ◌+◌, ◌<◌, ◌≤◌}
-use mathlib.Core.Path.{◌≡◌, refl, sym, ap, ◌∙◌}
+use mathlib.Core.Path.{◌≡◌, refl, sym, ap, subst, ◌∙◌}
 use mathlib.Core.Bool.{Bool, true, false, not, cond, ◌&&◌, ◌||◌, or_assoc, or-true, or-false}
 use Rattle.std.specs.Prelude.{Some, None}
 use mathlib.Core.List.{List, [], ◌∷◌}
 use native.Mathlib.Omega.{arith}
-use native.Mathlib.Nat.{le_trans}
 use lib.ListN.{length}
-use lib.Dec.{eqb, ltb, leb}
-use borrow.Author.Tests.{lt-ltb, le-leb, lt-leb, ltb-false}
+use lib.Dec.{eqb, ltb}
+use borrow.Author.Tests.{lt-ltb, le-leb, lt-leb}
 use Rattle.model.specs.Sizes.{wait_places, max_listed, word64, never}
 use Rattle.model.specs.Basics.{any_of}
 use Rattle.model.specs.Calls.{Lent, time_up}
@@ -84,8 +83,12 @@ module _ (t : List ℕ) (w : Terms) (list : List ℕ) (time : ℕ) (l : Lent) wh
   abbrev pub Act : Result → Type 0
   Act r = r ≡ act_cells w.mode list w.owner w.clock w.alert w.timeout time t l
 
-  pub act_served : (s : Served) {u : List ℕ} → tried_by (Some s) u ≡ try_list t w.mode w.owner w.alert list → Act (answered (cond s.abandoned 4 0) s.index 0 u l)
-  act_served s e = rw (sym e)
+  module _ (s : Served) {u : List ℕ} (e : tried_by (Some s) u ≡ try_list t w.mode w.owner w.alert list) where
+    pub act_index : s.index ≤ length list
+    act_index = subst (λ (r : Tried). r.index ≤ length list) (sym e) (index_le t w.mode w.owner w.alert list)
+
+    pub act_served : Act (answered (cond s.abandoned 4 0) s.index 0 u l)
+    act_served = rw (sym e)
 
   pub act_later : {u : List ℕ} → tried_by None u ≡ try_list t w.mode w.owner w.alert list → {q : Result} → q ≡ later_cells w.mode list w.owner w.clock w.alert w.timeout time u l → Act q
   act_later {u} e h = let s : u ≡ t = ap (λ (x : Tried). x.tables) e ∙ missed_same t w.mode w.owner w.alert list (ap (λ (x : Tried). x.served) (sym e)) in
@@ -108,17 +111,3 @@ module _ (t : List ℕ) (w : Terms) (list : List ℕ) (time : ℕ) (l : Lent) wh
       pub wait_acts : bad ≡ false → {q : Result} → q ≡ act_cells w.mode copy w.owner w.clock w.alert w.timeout time t l → Wait q
       unfolding wait_on_cells
       wait_acts y h = rw k at h ∙ rw (sym (rw k at e), y)
-
--- the index of a wait's answer stays within a list
-later_index : (t : List ℕ) (mode : ℕ) (list : List ℕ) (asking flags alert timeout time : ℕ) (l : Lent) → (later_cells mode list asking flags alert timeout time t l).first ≡ 0
-unfolding later_cells
-later_index t mode list asking flags alert timeout time l = by_bool (time_up timeout time) (λ y. rw y) (λ n. rw n (by_bool (ltb (ticket_place t 0) wait_places) (λ y. rw y (by_bool (leb word64 (next_ticket t + 1)) (λ y. rw y) (λ m. rw m))) (λ m. rw m)))
-
-short_list : (t : List ℕ) (mode : ℕ) (list : List ℕ) (asking flags pad alert : ℕ) → bad_wait mode list asking flags pad alert t ≡ false → length list ≤ max_listed
-unfolding bad_wait
-short_list t mode list asking flags pad alert n = ltb-false max_listed (length list) (fault_free _ n 1)
-
-pub wait_index : (t : List ℕ) (mode : ℕ) (list : List ℕ) (asking flags pad alert timeout time : ℕ) (l : Lent) → (wait_on_cells mode list asking flags pad alert timeout time t l).first ≤ max_listed
-unfolding wait_on_cells
-wait_index t mode list asking flags pad alert timeout time l = by_bool (bad_wait mode list asking flags pad alert t) (λ y. rw y (omega arith))
-    (λ n. rw n (by_bool (try_list t mode asking alert list).served (λ y. rw y (le_trans (index_le t mode asking alert list) (short_list t mode list asking flags pad alert n))) (λ m. rw (m, later_index t mode list asking flags alert timeout time l) (omega arith))))

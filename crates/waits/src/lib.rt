@@ -7,16 +7,21 @@ ghost use Rattle.model.specs.Calls.{nothing_lent};
 ghost use Rattle.cells.specs.Calls.{bad_wait, later_cells, act_cells, wait_on_cells};
 ghost use Rattle.waits.specs.Values.{waited_by};
 
-use attempt::Served;
 use kinds::Refusal;
 use tables::{Cells, Terms};
 
 // What becomes of a wait that is not refused.
 #[derive(Clone, Copy)]
 pub enum Outcome {
-    Served(Served),
+    Served {
+        index: u32,
+        // something acquired had been abandoned
+        abandoned: bool,
+    },
     TimedOut,
-    Queued { ticket: u64 },
+    Queued {
+        ticket: u64,
+    },
 }
 
 fn bad_wait(t: &Cells, terms: Terms, list: &[u64], pad: u64) -> bool
@@ -59,7 +64,10 @@ fn act(t: &mut Cells, terms: Terms, list: &[u64], time: u64) -> Result<Outcome, 
         ≡ act_cells terms.mode list.now terms.owner terms.clock terms.alert terms.timeout time t.old nothing_lent }
 {
     match attempt::try_list(t, terms.mode, terms.owner, terms.alert, list) {
-        Some(served) => Ok(Outcome::Served(served)),
+        Some(served) => Ok(Outcome::Served {
+            index: served.index as u32,
+            abandoned: served.abandoned,
+        }),
         None => later(t, terms, list, time),
     }
 }
