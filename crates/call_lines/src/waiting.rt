@@ -1,177 +1,136 @@
 // The two waits, each with its line: the list and the other arguments, then the answer, the index, the ticket, and whether a
 // cell of the tables changed.
-use crate::memory::Tables;
-use crate::print;
-use std::io;
+use crate::memory::{Cells, Tables};
+use ntsync::Waited;
+use std::{fmt, io};
 
 pub const NEVER: u64 = 18446744073709551615;
 
 // A longer list is shown by its length alone.
 const SHOWN: usize = 8;
 
-// A space stands between two handles.
-fn show(rt: &impl Print, handle: u32, i: usize) -> io::Result<()> {
-    if i > 0 {
-        print::text(rt, b" ")?;
+#[derive(Clone, Copy)]
+struct Handles<'a>(&'a [u32]);
+
+impl fmt::Display for Handles<'_> {
+    fn fmt<W: fmt::Write>(&self, f: &mut fmt::Formatter<W>) -> fmt::Result {
+        let list = self.0;
+        if list.len() > SHOWN {
+            return write!(f, "({} handles)", list.len());
+        }
+        write!(f, "(")?;
+        for (i, handle) in list.iter().enumerate() {
+            let space = if i > 0 { " " } else { "" };
+            write!(f, "{space}{handle}")?;
+        }
+        write!(f, ")")
     }
-    print::bare(rt, handle as u64)?;
-    Ok(())
 }
 
-fn handles(rt: &impl Print, list: &[u32]) -> io::Result<()> {
-    let mut i = 0;
-    while i < list.len() {
-        show(rt, list[i], i)?;
-        i += 1;
+// The arguments of a wait beside its list. The flags are the clock: 0 monotonic, 1 real-time.
+#[derive(Clone, Copy)]
+pub struct Terms {
+    pub owner: u32,
+    pub alert: u32,
+    pub flags: u32,
+    pub pad: u32,
+    pub timeout: u64,
+    pub time: u64,
+}
+
+impl Terms {
+    // With no alert and no end.
+    pub fn of(owner: u32) -> Self {
+        Self {
+            owner,
+            alert: 0,
+            flags: 0,
+            pad: 0,
+            timeout: NEVER,
+            time: 0,
+        }
     }
-    Ok(())
-}
 
-fn listed(rt: &impl Print, list: &[u32]) -> io::Result<()> {
-    print::text(rt, b" (")?;
-    if list.len() > SHOWN {
-        print::bare(rt, list.len() as u64)?;
-        print::text(rt, b" handles")?;
-    } else {
-        handles(rt, list)?;
+    pub fn alerted(self, alert: u32) -> Self {
+        Self { alert, ..self }
     }
-    print::text(rt, b")")?;
-    Ok(())
+
+    // Asked at `time`, with the end `timeout` on the clock of these flags.
+    pub fn until(self, flags: u32, timeout: u64, time: u64) -> Self {
+        Self {
+            flags,
+            timeout,
+            time,
+            ..self
+        }
+    }
 }
 
-fn named(rt: &impl Print, word: &[u8], value: u64) -> io::Result<()> {
-    print::text(rt, word)?;
-    print::number(rt, value)?;
-    Ok(())
+impl fmt::Display for Terms {
+    fn fmt<W: fmt::Write>(&self, f: &mut fmt::Formatter<W>) -> fmt::Result {
+        write!(
+            f,
+            "owner {} alert {} flags {} pad {}",
+            self.owner, self.alert, self.flags, self.pad
+        )?;
+        write!(f, " timeout {} time {}", self.timeout, self.time)
+    }
 }
 
-fn terms(
-    rt: &impl Print,
-    owner: u32,
-    alert: u32,
-    flags: u32,
-    pad: u32,
-    timeout: u64,
-    time: u64,
-) -> io::Result<()> {
-    named(rt, b" owner", owner as u64)?;
-    named(rt, b" alert", alert as u64)?;
-    named(rt, b" flags", flags as u64)?;
-    named(rt, b" pad", pad as u64)?;
-    named(rt, b" timeout", timeout)?;
-    named(rt, b" time", time)?;
-    print::text(rt, b":")?;
-    Ok(())
+// The call itself with its arguments as a case has them.
+pub fn any_on(t: &mut [u64], list: &[u32], terms: Terms) -> Waited {
+    let Terms {
+        owner,
+        alert,
+        flags,
+        pad,
+        timeout,
+        time,
+    } = terms;
+    ntsync::wait_any(t, list, owner, alert, flags, pad, timeout, time)
 }
 
-pub fn heard(rt: &impl Print, answer: u32, index: u32, ticket: u64) -> io::Result<()> {
-    print::two(rt, answer, index)?;
-    print::number(rt, ticket)?;
-    Ok(())
+pub fn all_on(t: &mut [u64], list: &[u32], terms: Terms) -> Waited {
+    let Terms {
+        owner,
+        alert,
+        flags,
+        pad,
+        timeout,
+        time,
+    } = terms;
+    ntsync::wait_all(t, list, owner, alert, flags, pad, timeout, time)
 }
 
 impl Tables {
-    pub fn wait_any(
-        self,
-        rt: &impl Print,
-        list: &[u32],
-        owner: u32,
-        alert: u32,
-        flags: u32,
-        pad: u32,
-        timeout: u64,
-        time: u64,
-    ) -> io::Result<Self> {
-        print::text(rt, b"wait any")?;
-        listed(rt, list)?;
-        terms(rt, owner, alert, flags, pad, timeout, time)?;
+    fn waited<F: FnOnce(&mut Cells) -> Waited>(self, rt: &impl Print, call: F) -> io::Result<Self>
+        requires { F.IsAlwaysCallable call }
+    {
         let mut cells = self.cells;
-        let r = ntsync::wait_any(&mut cells, list, owner, alert, flags, pad, timeout, time);
-        heard(rt, r.answer, r.index, r.ticket)?;
+        let r = call(&mut cells);
+        print!(rt; " {} {} {}", r.answer, r.index, r.ticket)?;
         self.then(rt, cells)
     }
 
-    pub fn wait_all(
-        self,
-        rt: &impl Print,
-        list: &[u32],
-        owner: u32,
-        alert: u32,
-        flags: u32,
-        pad: u32,
-        timeout: u64,
-        time: u64,
-    ) -> io::Result<Self> {
-        print::text(rt, b"wait all")?;
-        listed(rt, list)?;
-        terms(rt, owner, alert, flags, pad, timeout, time)?;
-        let mut cells = self.cells;
-        let r = ntsync::wait_all(&mut cells, list, owner, alert, flags, pad, timeout, time);
-        heard(rt, r.answer, r.index, r.ticket)?;
-        self.then(rt, cells)
+    pub fn wait_any(self, rt: &impl Print, list: &[u32], terms: Terms) -> io::Result<Self> {
+        let handles = Handles(list);
+        print!(rt; "wait any {handles} {terms}:")?;
+        self.waited(rt, |cells| any_on(cells, list, terms))
+    }
+
+    pub fn wait_all(self, rt: &impl Print, list: &[u32], terms: Terms) -> io::Result<Self> {
+        let handles = Handles(list);
+        print!(rt; "wait all {handles} {terms}:")?;
+        self.waited(rt, |cells| all_on(cells, list, terms))
     }
 
     // ---- with no end
 
-    pub fn any_of(self, rt: &impl Print, list: &[u32], owner: u32) -> io::Result<Self> {
-        self.wait_any(rt, list, owner, 0, 0, 0, NEVER, 0)
+    pub fn any(self, rt: &impl Print, list: &[u32], owner: u32) -> io::Result<Self> {
+        self.wait_any(rt, list, Terms::of(owner))
     }
 
-    pub fn all_of(self, rt: &impl Print, list: &[u32], owner: u32) -> io::Result<Self> {
-        self.wait_all(rt, list, owner, 0, 0, 0, NEVER, 0)
-    }
-
-    // ---- one handle or two, as numbers: each list in a case costs the proof more than the call does
-
-    pub fn any(self, rt: &impl Print, handle: u32, owner: u32) -> io::Result<Self> {
-        self.any_of(rt, &[handle], owner)
-    }
-
-    pub fn any_two(self, rt: &impl Print, first: u32, second: u32, owner: u32) -> io::Result<Self> {
-        self.any_of(rt, &[first, second], owner)
-    }
-
-    pub fn all(self, rt: &impl Print, handle: u32, owner: u32) -> io::Result<Self> {
-        self.all_of(rt, &[handle], owner)
-    }
-
-    pub fn all_two(self, rt: &impl Print, first: u32, second: u32, owner: u32) -> io::Result<Self> {
-        self.all_of(rt, &[first, second], owner)
-    }
-
-    // ---- with an alert or an end
-
-    pub fn any_alert(
-        self,
-        rt: &impl Print,
-        handle: u32,
-        owner: u32,
-        alert: u32,
-    ) -> io::Result<Self> {
-        self.wait_any(rt, &[handle], owner, alert, 0, 0, NEVER, 0)
-    }
-
-    pub fn any_two_alert(
-        self,
-        rt: &impl Print,
-        first: u32,
-        second: u32,
-        owner: u32,
-        alert: u32,
-    ) -> io::Result<Self> {
-        self.wait_any(rt, &[first, second], owner, alert, 0, 0, NEVER, 0)
-    }
-
-    // The flags are the clock: 0 monotonic, 1 real-time.
-    pub fn any_until(
-        self,
-        rt: &impl Print,
-        handle: u32,
-        owner: u32,
-        flags: u32,
-        timeout: u64,
-        time: u64,
-    ) -> io::Result<Self> {
-        self.wait_any(rt, &[handle], owner, 0, flags, 0, timeout, time)
+    pub fn all(self, rt: &impl Print, list: &[u32], owner: u32) -> io::Result<Self> {
+        self.wait_all(rt, list, Terms::of(owner))
     }
 }

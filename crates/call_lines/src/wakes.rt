@@ -1,54 +1,31 @@
 // The six calls that wake, asked one after another on one line: each with its answer, the number with it and how many waits
 // were woken. The tables and the wake list may have any length.
-use crate::print;
 use crate::waiting::NEVER;
 use std::io;
 
 // Owner 5 unlocks the mutex and is then killed.
 const OWNER: u32 = 5;
 
-fn answered(
-    rt: &impl Print,
-    call: &[u8],
-    answer: u32,
-    previous: u32,
-    woken: u32,
-) -> io::Result<()> {
-    print::text(rt, call)?;
-    print::three(rt, answer, previous, woken)?;
-    Ok(())
+// The arguments of the six calls: a handle of each kind, and the clock that is told.
+#[derive(Clone, Copy)]
+pub struct Targets {
+    pub semaphore: u32,
+    pub mutex: u32,
+    pub event: u32,
+    pub clock: u32,
 }
 
-fn ask_mutex(rt: &impl Print, t: &mut [u64], wake: &mut [u64], mutex: u32) -> io::Result<()> {
-    let u = ntsync::unlock(t, wake, mutex, OWNER);
-    answered(rt, b" unlock", u.answer, u.previous, u.woken)?;
-    let k = ntsync::kill_owner(t, wake, mutex, OWNER);
-    answered(rt, b" kill", k.answer, k.previous, k.woken)?;
-    Ok(())
-}
-
-fn ask_event(rt: &impl Print, t: &mut [u64], wake: &mut [u64], event: u32) -> io::Result<()> {
-    let s = ntsync::set(t, wake, event);
-    answered(rt, b" set", s.answer, s.previous, s.woken)?;
-    let p = ntsync::pulse(t, wake, event);
-    answered(rt, b" pulse", p.answer, p.previous, p.woken)?;
-    Ok(())
-}
-
-pub fn ask(
-    rt: &impl Print,
-    t: &mut [u64],
-    wake: &mut [u64],
-    semaphore: u32,
-    mutex: u32,
-    event: u32,
-    clock: u32,
-) -> io::Result<()> {
-    let p = ntsync::post(t, wake, semaphore, 1);
-    answered(rt, b" post", p.answer, p.previous, p.woken)?;
-    ask_mutex(rt, t, wake, mutex)?;
-    ask_event(rt, t, wake, event)?;
-    let e = ntsync::expire(t, wake, clock, NEVER);
-    answered(rt, b" expire", e.answer, e.previous, e.woken)?;
-    Ok(())
+pub fn ask(rt: &impl Print, t: &mut [u64], wake: &mut [u64], at: Targets) -> io::Result<()> {
+    let r = ntsync::post(t, wake, at.semaphore, 1);
+    print!(rt; " post {} {} {}", r.answer, r.previous, r.woken)?;
+    let r = ntsync::unlock(t, wake, at.mutex, OWNER);
+    print!(rt; " unlock {} {} {}", r.answer, r.previous, r.woken)?;
+    let r = ntsync::kill_owner(t, wake, at.mutex, OWNER);
+    print!(rt; " kill {} {} {}", r.answer, r.previous, r.woken)?;
+    let r = ntsync::set(t, wake, at.event);
+    print!(rt; " set {} {} {}", r.answer, r.previous, r.woken)?;
+    let r = ntsync::pulse(t, wake, at.event);
+    print!(rt; " pulse {} {} {}", r.answer, r.previous, r.woken)?;
+    let r = ntsync::expire(t, wake, at.clock, NEVER);
+    print!(rt; " expire {} {} {}", r.answer, r.previous, r.woken)
 }

@@ -7,6 +7,5 @@ mod damage;
 
 pub fn cases(rt: &impl Print) -> io::Result<()> {
     damage::cases(rt)?;
-    damage::lengths(rt)?;
-    Ok(())
+    damage::lengths(rt)
 }

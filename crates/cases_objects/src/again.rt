@@ -1,6 +1,5 @@
 // Freed places are used again, the lowest first; an event is reset; there is no wait to cancel.
 use call_lines::memory::Tables;
-use call_lines::print;
 use std::io;
 
 fn closed(rt: &impl Print) -> io::Result<Tables> {
@@ -42,7 +41,10 @@ fn cancelled(rt: &impl Print, t: Tables) -> io::Result<Tables> {
 }
 
 pub fn cases(rt: &impl Print) -> io::Result<()> {
-    print::heading(rt, b"places used again, reset, cancel")?;
-    cancelled(rt, reset_twice(rt, created_again(rt, closed(rt)?)?)?)?;
+    println!(rt; "-- places used again, reset, cancel")?;
+    let t = closed(rt)?;
+    let t = created_again(rt, t)?;
+    let t = reset_twice(rt, t)?;
+    cancelled(rt, t)?;
     Ok(())
 }

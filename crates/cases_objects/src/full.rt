@@ -1,41 +1,25 @@
 // All 512 places in use, and numbers that are no handle.
 use call_lines::memory::{Cells, Tables};
-use call_lines::print;
 use std::io;
 
 const PLACES: u32 = 512;
 
 // A semaphore, a mutex and an event in turn.
 fn create_some(t: &mut Cells, i: u32) -> u32 {
-    if i % 3 == 0 {
-        let r = ntsync::create_sem(t, 1, 2);
-        return r.handle;
+    match i % 3 {
+        1 => ntsync::create_sem(t, 1, 2).handle,
+        2 => ntsync::create_mutex(t, 5, 2).handle,
+        _ => ntsync::create_event(t, 1, 0).handle,
     }
-    if i % 3 == 1 {
-        let r = ntsync::create_mutex(t, 5, 2);
-        return r.handle;
-    }
-    let r = ntsync::create_event(t, 1, 0);
-    r.handle
 }
 
 // How many creations in a row gave the handles 1, 2, 3 and on.
-fn create_all(t: &mut Cells) -> u32 {
-    let mut i: u32 = 0;
-    while i < PLACES {
-        let handle = create_some(t, i);
-        if handle != i + 1 {
-            return i;
-        }
-        i += 1;
-    }
-    i
-}
-
 fn filled(rt: &impl Print) -> io::Result<Tables> {
-    let t = Tables::new();
-    let mut cells = t.cells;
-    print::counted(rt, b"created in a row:", create_all(&mut cells) as u64)?;
+    let mut cells = Tables::new().cells;
+    let created = (1..=PLACES)
+        .take_while(|i| create_some(&mut cells, *i) == *i)
+        .count();
+    println!(rt; "created in a row: {created}")?;
     Ok(Tables { cells })
 }
 
@@ -78,8 +62,9 @@ fn wrong_kind(rt: &impl Print, t: Tables) -> io::Result<Tables> {
 }
 
 pub fn cases(rt: &impl Print) -> io::Result<()> {
-    print::heading(rt, b"all places in use")?;
-    let t = in_use(rt, no_room(rt, filled(rt)?)?)?;
+    println!(rt; "-- all places in use")?;
+    let t = no_room(rt, filled(rt)?)?;
+    let t = in_use(rt, t)?;
     let t = no_handle(rt, t, 513)?;
     let t = no_handle(rt, t, 0)?;
     let t = no_handle(rt, t, 4294967295)?;

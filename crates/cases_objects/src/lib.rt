@@ -15,11 +15,9 @@ pub fn cases(rt: &impl Print) -> io::Result<()> {
     full::cases(rt)?;
     limits::cases(rt)?;
     again::cases(rt)?;
-    queued::cases(rt)?;
-    Ok(())
+    queued::cases(rt)
 }
 
 pub fn snapshot_cases(rt: &impl Print) -> io::Result<()> {
-    snapshots::cases(rt)?;
-    Ok(())
+    snapshots::cases(rt)
 }

@@ -1,6 +1,5 @@
 // What creating refuses and takes, at the borders of the numbers.
 use call_lines::memory::Tables;
-use call_lines::print;
 use std::io;
 
 const MOST: u32 = 4294967295;
@@ -40,7 +39,9 @@ fn events(rt: &impl Print, t: Tables) -> io::Result<Tables> {
 }
 
 pub fn cases(rt: &impl Print) -> io::Result<()> {
-    print::heading(rt, b"what creating refuses and takes")?;
-    events(rt, mutexes(rt, semaphores(rt, Tables::new())?)?)?;
+    println!(rt; "-- what creating refuses and takes")?;
+    let t = semaphores(rt, Tables::new())?;
+    let t = mutexes(rt, t)?;
+    events(rt, t)?;
     Ok(())
 }

@@ -1,11 +1,11 @@
 // A queued wait, written into the cells: its ticket and cells are then known without any call. Ticket 5 waits for any of
 // handle 1, a semaphore, with handle 2, an event, as its alert.
-use call_lines::memory::Tables;
-use call_lines::{memory, print};
+use call_lines::memory::{Cell, ObjectCell, Tables, WaitCell};
 use std::io;
 
 fn queue(t: Tables) -> Tables {
-    t.put_row(memory::WAITS, &[5, 0, 9, 0, 18446744073709551615, 1, 2, 1])
+    let wait = [5, 0, 9, 0, 18446744073709551615, 1, 2, 1];
+    t.put_row(Cell::Wait(0, WaitCell::Ticket), &wait)
 }
 
 fn objects(rt: &impl Print) -> io::Result<Tables> {
@@ -31,9 +31,8 @@ fn while_queued(rt: &impl Print, t: Tables) -> io::Result<Tables> {
 // Cancelling empties the wait's place and leaves the rest: the same wait written again gives the tables from before.
 fn written_again(rt: &impl Print, t: Tables) -> io::Result<Tables> {
     let again = queue(t.cancel(rt, 5)?);
-    let cells = again.cells;
-    print::text(rt, b"wait written again:")?;
-    t.then(rt, cells)
+    print!(rt; "wait written again:")?;
+    t.then(rt, again.cells)
 }
 
 fn cancelled(rt: &impl Print, t: Tables) -> io::Result<Tables> {
@@ -42,22 +41,24 @@ fn cancelled(rt: &impl Print, t: Tables) -> io::Result<Tables> {
 
 // The last ticket is spent at 18446744073709551615; the tables are sound there.
 fn last_ticket(rt: &impl Print, t: Tables) -> io::Result<()> {
-    print::text(rt, b"next ticket 18446744073709551615\n")?;
+    println!(rt; "next ticket 18446744073709551615")?;
     let t = t
-        .put(0, 18446744073709551615)
+        .put(Cell::NextTicket, 18446744073709551615)
         .create_mutex(rt, 0, 0)?
         .read_mutex(rt, 1)?;
-    print::text(rt, b"mutex 1 abandoned\n")?;
-    t.put(1 + memory::ATTRIBUTE, 1)
+    println!(rt; "mutex 1 abandoned")?;
+    t.put(Cell::Object(0, ObjectCell::Attribute), 1)
         .read_mutex(rt, 1)?
         .close(rt, 1)?;
     Ok(())
 }
 
 pub fn cases(rt: &impl Print) -> io::Result<()> {
-    print::heading(rt, b"a queued wait")?;
-    let t = queue(objects(rt)?.put(0, 6));
-    print::text(rt, b"ticket 5: any of 1, alert 2\n")?;
-    last_ticket(rt, cancelled(rt, written_again(rt, while_queued(rt, t)?)?)?)?;
-    Ok(())
+    println!(rt; "-- a queued wait")?;
+    let t = queue(objects(rt)?.put(Cell::NextTicket, 6));
+    println!(rt; "ticket 5: any of 1, alert 2")?;
+    let t = while_queued(rt, t)?;
+    let t = written_again(rt, t)?;
+    let t = cancelled(rt, t)?;
+    last_ticket(rt, t)
 }

@@ -10,6 +10,5 @@ pub fn cases(rt: &impl Print) -> io::Result<()> {
     refused::waits(rt)?;
     refused::wake_lists(rt)?;
     refused::changes(rt)?;
-    fronts::cases(rt)?;
-    Ok(())
+    fronts::cases(rt)
 }

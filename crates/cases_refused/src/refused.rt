@@ -1,8 +1,10 @@
 // What the waits and the calls that wake refuse, and which refusal is told first.
 use call_lines::memory::Tables;
-use call_lines::waiting::NEVER;
+use call_lines::verdict::{altered, rest};
+use call_lines::waiting::{NEVER, Terms};
+use call_lines::wakes;
+use call_lines::wakes::Targets;
 use call_lines::woken::UNTOUCHED;
-use call_lines::{memory, print, wakes, woken};
 use std::io;
 
 const MOST: u32 = 4294967295;
@@ -19,21 +21,21 @@ fn objects(rt: &impl Print) -> io::Result<Tables> {
 // ---- the arguments of a wait
 
 fn both_of(rt: &impl Print, t: Tables, list: &[u32]) -> io::Result<Tables> {
-    t.any_of(rt, list, 7)?.all_of(rt, list, 7)
+    t.any(rt, list, 7)?.all(rt, list, 7)
 }
 
 fn lengths(rt: &impl Print, t: Tables) -> io::Result<Tables> {
-    let t = both_of(rt, t, &[3u32; 65])?;
-    both_of(rt, t, &[3u32; 3000])
+    let t = both_of(rt, t, &[3; 65])?;
+    both_of(rt, t, &[3; 3000])
 }
 
 fn both(rt: &impl Print, t: Tables, handle: u32) -> io::Result<Tables> {
-    t.any(rt, handle, 7)?.all(rt, handle, 7)
+    both_of(rt, t, &[handle])
 }
 
 // A bad handle is refused behind a signaled object too.
 fn both_behind(rt: &impl Print, t: Tables, handle: u32) -> io::Result<Tables> {
-    t.any_two(rt, 3, handle, 7)?.all_two(rt, 3, handle, 7)
+    both_of(rt, t, &[3, handle])
 }
 
 fn handles(rt: &impl Print, t: Tables) -> io::Result<Tables> {
@@ -48,47 +50,59 @@ fn handles(rt: &impl Print, t: Tables) -> io::Result<Tables> {
 }
 
 // The set manual event in the list would serve each of these waits at once.
-fn with(
-    rt: &impl Print,
-    t: Tables,
-    owner: u32,
-    alert: u32,
-    flags: u32,
-    pad: u32,
-) -> io::Result<Tables> {
-    t.wait_any(rt, &[3], owner, alert, flags, pad, NEVER, 0)?
-        .wait_all(rt, &[3], owner, alert, flags, pad, NEVER, 0)
+fn with(rt: &impl Print, t: Tables, terms: Terms) -> io::Result<Tables> {
+    t.wait_any(rt, &[3], terms)?.wait_all(rt, &[3], terms)
+}
+
+fn with_alert(rt: &impl Print, t: Tables, alert: u32) -> io::Result<Tables> {
+    let terms = Terms::of(7).alerted(alert);
+    with(rt, t, terms)
 }
 
 fn alerts(rt: &impl Print, t: Tables) -> io::Result<Tables> {
-    let t = with(rt, t, 7, 4, 0, 0)?;
-    let t = with(rt, t, 7, 2, 0, 0)?;
-    let t = with(rt, t, 7, 513, 0, 0)?;
-    let t = with(rt, t, 7, 5, 0, 0)?;
-    let t = with(rt, t, 7, MOST, 0, 0)?;
-    with(rt, t, 7, 1, 0, 0)
+    let t = with_alert(rt, t, 4)?;
+    let t = with_alert(rt, t, 2)?;
+    let t = with_alert(rt, t, 513)?;
+    let t = with_alert(rt, t, 5)?;
+    let t = with_alert(rt, t, MOST)?;
+    with_alert(rt, t, 1)
+}
+
+fn with_numbers(
+    rt: &impl Print,
+    t: Tables,
+    owner: u32,
+    flags: u32,
+    pad: u32,
+) -> io::Result<Tables> {
+    let terms = Terms {
+        flags,
+        pad,
+        ..Terms::of(owner)
+    };
+    with(rt, t, terms)
 }
 
 fn numbers(rt: &impl Print, t: Tables) -> io::Result<Tables> {
-    let t = with(rt, t, 7, 0, 2, 0)?;
-    let t = with(rt, t, 7, 0, 3, 0)?;
-    let t = with(rt, t, 7, 0, MOST, 0)?;
-    let t = with(rt, t, 7, 0, 0, 1)?;
-    let t = with(rt, t, 7, 0, 0, MOST)?;
-    let t = with(rt, t, 0, 0, 0, 0)?;
-    with(rt, t, MOST, 0, 1, 0)
+    let t = with_numbers(rt, t, 7, 2, 0)?;
+    let t = with_numbers(rt, t, 7, 3, 0)?;
+    let t = with_numbers(rt, t, 7, MOST, 0)?;
+    let t = with_numbers(rt, t, 7, 0, 1)?;
+    let t = with_numbers(rt, t, 7, 0, MOST)?;
+    let t = with_numbers(rt, t, 0, 0, 0)?;
+    with_numbers(rt, t, MOST, 1, 0)
 }
 
 // For all a handle stands once, the alert counted; for any it may stand again.
 fn repeated(rt: &impl Print, t: Tables) -> io::Result<()> {
-    t.all_two(rt, 3, 3, 7)?
-        .all_of(rt, &[3, 4, 3], 7)?
-        .wait_all(rt, &[3], 7, 3, 0, 0, NEVER, 0)?
-        .wait_all(rt, &[1, 4], 7, 1, 0, 0, NEVER, 0)?
-        .any_two(rt, 3, 3, 7)?
-        .any_alert(rt, 3, 7, 3)?
-        .any_of(rt, &[1, 4, 1], 7)?
-        .any_two_alert(rt, 1, 4, 7, 1)?;
+    t.all(rt, &[3, 3], 7)?
+        .all(rt, &[3, 4, 3], 7)?
+        .wait_all(rt, &[3], Terms::of(7).alerted(3))?
+        .wait_all(rt, &[1, 4], Terms::of(7).alerted(1))?
+        .any(rt, &[3, 3], 7)?
+        .wait_any(rt, &[3], Terms::of(7).alerted(3))?
+        .any(rt, &[1, 4, 1], 7)?
+        .wait_any(rt, &[1, 4], Terms::of(7).alerted(1))?;
     Ok(())
 }
 
@@ -97,60 +111,66 @@ fn before_room(rt: &impl Print) -> io::Result<()> {
     Tables::new()
         .create_event(rt, 0, 1)?
         .fill_queue(rt)?
-        .any(rt, 0, 7)?
-        .all_two(rt, 1, 1, 7)?
-        .any(rt, 1, 0)?
-        .any_until(rt, 1, 7, 2, 5, 5)?
-        .any(rt, 1, 7)?
+        .any(rt, &[0], 7)?
+        .all(rt, &[1, 1], 7)?
+        .any(rt, &[1], 0)?
+        .wait_any(rt, &[1], Terms::of(7).until(2, 5, 5))?
+        .any(rt, &[1], 7)?
         .put_next(rt, NEVER)?
-        .any(rt, 513, 7)?
+        .any(rt, &[513], 7)?
         .put_next(rt, 0)?
-        .any(rt, 513, 7)?
-        .all(rt, 1, 7)?;
+        .any(rt, &[513], 7)?
+        .all(rt, &[1], 7)?;
     Ok(())
 }
 
 pub fn waits(rt: &impl Print) -> io::Result<()> {
-    print::heading(rt, b"what a wait refuses")?;
-    repeated(
-        rt,
-        numbers(rt, alerts(rt, handles(rt, lengths(rt, objects(rt)?)?)?)?)?,
-    )?;
-    before_room(rt)?;
-    Ok(())
+    println!(rt; "-- what a wait refuses")?;
+    let t = lengths(rt, objects(rt)?)?;
+    let t = handles(rt, t)?;
+    let t = alerts(rt, t)?;
+    let t = numbers(rt, t)?;
+    repeated(rt, t)?;
+    before_room(rt)
 }
 
 // ---- wake lists
 
 // Nobody is queued, so that no list receives a record.
-fn ask(
-    rt: &impl Print,
-    t: Tables,
-    wake: &mut [u64],
-    semaphore: u32,
-    mutex: u32,
-    event: u32,
-    clock: u32,
-) -> io::Result<Tables> {
-    print::text(rt, b"wake list of")?;
-    print::number(rt, wake.len() as u64)?;
-    print::text(rt, b", handles")?;
-    print::three(rt, semaphore, mutex, event)?;
-    print::text(rt, b", clock")?;
-    print::one(rt, clock)?;
-    print::text(rt, b":")?;
-    let before = t.cells;
+fn ask(rt: &impl Print, t: Tables, wake: &mut [u64], at: Targets) -> io::Result<Tables> {
+    print!(rt;
+        "wake list of {}, handles {} {}",
+        wake.len(),
+        at.semaphore,
+        at.mutex
+    )?;
+    print!(rt; " {}, clock {}:", at.event, at.clock)?;
     let mut cells = t.cells;
-    wakes::ask(rt, &mut cells, wake, semaphore, mutex, event, clock)?;
-    memory::altered(rt, &cells, &before)?;
-    woken::rest(rt, wake, 0)?;
+    wakes::ask(rt, &mut cells, wake, at)?;
+    let altered = altered(&cells, &t.cells);
+    let rest = rest(wake, 0, &UNTOUCHED);
+    println!(rt; " {altered} {rest}")?;
     Ok(Tables { cells })
 }
 
+const GOOD: Targets = Targets {
+    semaphore: 4,
+    mutex: 2,
+    event: 1,
+    clock: 0,
+};
+
+const BAD: Targets = Targets {
+    semaphore: 513,
+    mutex: 0,
+    event: 5,
+    clock: 2,
+};
+
 // A short list is told before a bad handle.
 fn ask_twice(rt: &impl Print, t: Tables, wake: &mut [u64]) -> io::Result<Tables> {
-    let t = ask(rt, t, wake, 4, 2, 1, 0)?;
-    ask(rt, t, wake, 513, 0, 5, 2)
+    let t = ask(rt, t, wake, GOOD)?;
+    ask(rt, t, wake, BAD)
 }
 
 fn ask_lists(rt: &impl Print, t: Tables) -> io::Result<Tables> {
@@ -161,8 +181,9 @@ fn ask_lists(rt: &impl Print, t: Tables) -> io::Result<Tables> {
 }
 
 pub fn wake_lists(rt: &impl Print) -> io::Result<()> {
-    print::heading(rt, b"short wake lists")?;
-    ask_lists(rt, ask_lists(rt, objects(rt)?)?.put_next(rt, 0)?)?;
+    println!(rt; "-- short wake lists")?;
+    let t = ask_lists(rt, objects(rt)?)?.put_next(rt, 0)?;
+    ask_lists(rt, t)?;
     Ok(())
 }
 
@@ -187,7 +208,7 @@ fn no_owner(rt: &impl Print, t: Tables) -> io::Result<Tables> {
 }
 
 fn abandoned(rt: &impl Print, t: Tables) -> io::Result<Tables> {
-    t.any(rt, 2, 6)?
+    t.any(rt, &[2], 6)?
         .kill_owner(rt, 2, 6)?
         .kill_owner(rt, 2, 6)?
         .unlock(rt, 2, 6)?
@@ -231,11 +252,12 @@ fn no_object(rt: &impl Print, t: Tables, handle: u32) -> io::Result<Tables> {
 }
 
 pub fn changes(rt: &impl Print) -> io::Result<()> {
-    print::heading(rt, b"what the calls that wake refuse")?;
-    let t = wrong_kind(
-        rt,
-        maximum(rt, abandoned(rt, no_owner(rt, owners(rt, objects(rt)?)?)?)?)?,
-    )?;
+    println!(rt; "-- what the calls that wake refuse")?;
+    let t = owners(rt, objects(rt)?)?;
+    let t = no_owner(rt, t)?;
+    let t = abandoned(rt, t)?;
+    let t = maximum(rt, t)?;
+    let t = wrong_kind(rt, t)?;
     let t = no_object(rt, t, 0)?;
     let t = no_object(rt, t, 513)?;
     let t = no_object(rt, t, MOST)?;

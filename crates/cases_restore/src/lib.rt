@@ -2,97 +2,63 @@
 // own, whole, cut, or with one byte changed.
 #![tactic(auto)]
 
-use call_lines::memory::{Cells, TABLE_LENGTH, Tables};
-use call_lines::{memory, print};
+use call_lines::memory::{Cell, Cells, ObjectCell, TABLE_LENGTH, Tables};
+use call_lines::verdict::{altered, same, yes};
 use std::io;
 
 const BUFFER_LENGTH: usize = 65536;
 
-// A text and how long it is.
-#[derive(Clone, Copy)]
-struct Text {
-    bytes: [u8; BUFFER_LENGTH],
-    length: usize,
-}
+// Where a text stands, from the front on.
+type Buffer = [u8; BUFFER_LENGTH];
+
+// In every byte of a buffer before a text is written into it.
+const EMPTY: Buffer = [b'#'; BUFFER_LENGTH];
 
 // ---- the calls and their lines
 
-fn written(cells: &Cells) -> Text {
-    let mut bytes = [35u8; BUFFER_LENGTH];
-    let r = ntsync::snapshot(cells, &mut bytes);
-    Text {
-        bytes,
-        length: r.length as usize,
-    }
+fn written<'a>(cells: &Cells, buffer: &'a mut Buffer) -> &'a [u8] {
+    let r = ntsync::snapshot(cells, buffer);
+    buffer.get(..r.length as usize).unwrap_or(&[])
 }
 
 // The text's length, the answer and the offset; whether a cell changed.
 fn read(rt: &impl Print, t: Tables, text: &[u8]) -> io::Result<Tables> {
-    print::asked(rt, b"restore bytes", text.len() as u64)?;
     let mut cells = t.cells;
     let r = ntsync::restore(&mut cells, text);
-    print::one(rt, r.answer)?;
-    print::number(rt, r.offset)?;
+    print!(rt; "restore bytes {}: {} {}", text.len(), r.answer, r.offset)?;
     t.then(rt, cells)
 }
 
-// Of the first `length` bytes; a length past the end reads nothing, and the missing line would show.
-fn read_front(rt: &impl Print, t: Tables, bytes: &[u8], length: usize) -> io::Result<Tables> {
-    if length > bytes.len() {
-        return Ok(t);
+// A copy of the text with one byte changed.
+fn with<'a>(text: &[u8], at: usize, byte: u8, buffer: &'a mut Buffer) -> &'a [u8] {
+    for (i, (to, from)) in buffer.iter_mut().zip(text).enumerate() {
+        *to = if i == at { byte } else { *from };
     }
-    read(rt, t, &bytes[..length])
+    buffer.get(..text.len()).unwrap_or(&[])
 }
 
-fn read_first(rt: &impl Print, t: Tables, text: Text, length: usize) -> io::Result<Tables> {
-    let bytes = text.bytes;
-    read_front(rt, t, &bytes, length)
-}
-
-fn read_whole(rt: &impl Print, t: Tables, text: Text) -> io::Result<Tables> {
-    read_first(rt, t, text, text.length)
-}
-
-// A byte past the end is not written.
-fn put(bytes: &mut [u8], at: usize, byte: u8) {
-    if at < bytes.len() {
-        bytes[at] = byte;
-    }
-}
-
-fn with(text: Text, at: usize, byte: u8) -> Text {
-    let mut bytes = text.bytes;
-    put(&mut bytes, at, byte);
-    Text {
-        bytes,
-        length: text.length,
-    }
-}
-
-// The text with one byte changed.
-fn read_changed(rt: &impl Print, t: Tables, text: Text, at: usize, byte: u8) -> io::Result<Tables> {
-    print::text(rt, b"byte")?;
-    print::number(rt, at as u64)?;
-    print::text(rt, b" becomes")?;
-    print::number(rt, byte as u64)?;
-    print::text(rt, b"; ")?;
-    read_whole(rt, t, with(text, at, byte))
+fn read_changed(
+    rt: &impl Print,
+    t: Tables,
+    text: &[u8],
+    at: usize,
+    byte: u8,
+) -> io::Result<Tables> {
+    print!(rt; "byte {at} becomes {byte}; ")?;
+    let mut buffer = EMPTY;
+    read(rt, t, with(text, at, byte, &mut buffer))
 }
 
 // Tables whose cells are all 7: nothing of the contents matters.
-fn unmade() -> Tables {
-    Tables {
-        cells: [7u64; TABLE_LENGTH],
-    }
-}
+const UNMADE: Tables = Tables {
+    cells: [7; TABLE_LENGTH],
+};
 
 // The tables that a text of t gives, and whether they are t's own.
 fn read_back(rt: &impl Print, t: Tables) -> io::Result<Tables> {
-    let cells = t.cells;
-    let back = read_whole(rt, unmade(), written(&cells))?;
-    let again = back.cells;
-    print::text(rt, b"the same cells:")?;
-    print::yes(rt, memory::same(&again, &cells))?;
+    let mut buffer = EMPTY;
+    let back = read(rt, UNMADE, written(&t.cells, &mut buffer))?;
+    println!(rt; "the same cells: {}", yes(same(&back.cells, &t.cells)))?;
     Ok(back)
 }
 
@@ -109,9 +75,9 @@ fn first_reading(rt: &impl Print) -> io::Result<Tables> {
 fn placed(rt: &impl Print) -> io::Result<()> {
     let t = Tables::new()
         .create_event(rt, 0, 0)?
-        .any(rt, 1, 7)?
-        .any(rt, 1, 8)?
-        .any(rt, 1, 9)?
+        .any(rt, &[1], 7)?
+        .any(rt, &[1], 8)?
+        .any(rt, &[1], 9)?
         .cancel(rt, 1)?;
     let back = read_back(rt, t)?;
     read_back(rt, back)?;
@@ -121,18 +87,18 @@ fn placed(rt: &impl Print) -> io::Result<()> {
 // ---- refused
 
 // The text of 195 bytes ends where a line is due, within a line, and with a byte more.
-fn cut(rt: &impl Print, t: Tables, text: Text) -> io::Result<()> {
-    read_first(rt, t, text, 0)?;
-    read_first(rt, t, text, 6)?;
-    read_first(rt, t, text, 97)?;
-    read_first(rt, t, text, 100)?;
-    read_first(rt, t, text, 185)?;
-    read_first(rt, t, text, 194)?;
-    read_first(rt, t, text, 196)?;
+fn cut(rt: &impl Print, t: Tables) -> io::Result<()> {
+    let mut buffer = EMPTY;
+    written(&t.cells, &mut buffer);
+    for length in [0, 6, 97, 100, 185, 194, 196] {
+        read(rt, t, buffer.get(..length).unwrap_or(&[]))?;
+    }
     Ok(())
 }
 
-fn changed(rt: &impl Print, t: Tables, text: Text) -> io::Result<()> {
+fn changed(rt: &impl Print, t: Tables) -> io::Result<()> {
+    let mut buffer = EMPTY;
+    let text = written(&t.cells, &mut buffer);
     read_changed(rt, t, text, 5, b'0')?;
     read_changed(rt, t, text, 15, b'3')?;
     read_changed(rt, t, text, 15, b'1')?;
@@ -152,11 +118,11 @@ fn changed(rt: &impl Print, t: Tables, text: Text) -> io::Result<()> {
 fn servable(rt: &impl Print) -> io::Result<()> {
     let t = Tables::new()
         .create_event(rt, 0, 1)?
-        .any(rt, 1, 7)?
-        .put(2, 1);
-    print::text(rt, b"signaled by hand\n")?;
-    let cells = t.cells;
-    read_whole(rt, t, written(&cells))?;
+        .any(rt, &[1], 7)?
+        .put(Cell::Object(0, ObjectCell::Count), 1);
+    println!(rt; "signaled by hand")?;
+    let mut buffer = EMPTY;
+    read(rt, t, written(&t.cells, &mut buffer))?;
     Ok(())
 }
 
@@ -166,33 +132,29 @@ fn no_maximum(rt: &impl Print) -> io::Result<()> {
         .create_semaphore(rt, 0, 1)?
         .create_event(rt, 0, 0)?;
     read_back(rt, t)?;
-    let cells = t.cells;
-    read_changed(rt, t, with(written(&cells), 104, b'5'), 47, b'0')?;
+    let mut buffer = EMPTY;
+    let mut other = EMPTY;
+    let text = written(&t.cells, &mut buffer);
+    read_changed(rt, t, with(text, 104, b'5', &mut other), 47, b'0')?;
     Ok(())
 }
 
-// 9 before 13.
-fn short_tables(rt: &impl Print, text: Text) -> io::Result<()> {
-    let mut t = [7u64; TABLE_LENGTH - 1];
-    let bytes = text.bytes;
-    let r = ntsync::restore(&mut t, &bytes);
-    print::text(rt, b"one cell short:")?;
-    print::one(rt, r.answer)?;
-    print::number(rt, r.offset)?;
-    memory::verdict(rt, &t, &[7u64; TABLE_LENGTH - 1])?;
-    Ok(())
+// 9 before 13: the text is none.
+fn short_tables(rt: &impl Print) -> io::Result<()> {
+    let before = [7; TABLE_LENGTH - 1];
+    let mut t = before;
+    let r = ntsync::restore(&mut t, &EMPTY);
+    let altered = altered(&t, &before);
+    println!(rt; "one cell short: {} {} {altered}", r.answer, r.offset)
 }
 
 pub fn cases(rt: &impl Print) -> io::Result<()> {
-    print::heading(rt, b"a picture read back")?;
+    println!(rt; "-- a picture read back")?;
     let t = first_reading(rt)?;
     placed(rt)?;
-    let cells = t.cells;
-    let text = written(&cells);
-    cut(rt, t, text)?;
-    changed(rt, t, text)?;
+    cut(rt, t)?;
+    changed(rt, t)?;
     servable(rt)?;
     no_maximum(rt)?;
-    short_tables(rt, text)?;
-    Ok(())
+    short_tables(rt)
 }

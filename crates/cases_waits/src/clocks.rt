@@ -1,7 +1,6 @@
 // The two clocks: which waits expire, and in what order they are told.
-use call_lines::memory::Tables;
-use call_lines::waiting::NEVER;
-use call_lines::{memory, print};
+use call_lines::memory::{Cell, Tables, WaitCell};
+use call_lines::waiting::{NEVER, Terms};
 use std::io;
 
 const MONOTONIC: u32 = 0;
@@ -17,12 +16,12 @@ fn unsignaled(rt: &impl Print) -> io::Result<Tables> {
 }
 
 fn queue_on_both(rt: &impl Print, t: Tables) -> io::Result<Tables> {
-    t.any_until(rt, 1, 7, MONOTONIC, 100, 0)?
-        .any_until(rt, 1, 8, REAL_TIME, 100, 0)?
-        .any_until(rt, 1, 9, MONOTONIC, 101, 0)?
-        .any_until(rt, 1, 10, MONOTONIC, NEVER, 0)?
-        .any_until(rt, 1, 11, REAL_TIME, NEVER, 0)?
-        .any_until(rt, 1, 12, REAL_TIME, LAST_TIME, 0)
+    t.wait_any(rt, &[1], Terms::of(7).until(MONOTONIC, 100, 0))?
+        .wait_any(rt, &[1], Terms::of(8).until(REAL_TIME, 100, 0))?
+        .wait_any(rt, &[1], Terms::of(9).until(MONOTONIC, 101, 0))?
+        .wait_any(rt, &[1], Terms::of(10).until(MONOTONIC, NEVER, 0))?
+        .wait_any(rt, &[1], Terms::of(11).until(REAL_TIME, NEVER, 0))?
+        .wait_any(rt, &[1], Terms::of(12).until(REAL_TIME, LAST_TIME, 0))
 }
 
 // Each clock ends its own waits; tickets 4 and 5 have no end and are there afterwards.
@@ -46,22 +45,22 @@ fn both(rt: &impl Print) -> io::Result<()> {
 fn at_once(rt: &impl Print) -> io::Result<()> {
     Tables::new()
         .create_event(rt, 1, 0)?
-        .any_until(rt, 1, 7, MONOTONIC, 0, 5)?
-        .any_until(rt, 1, 7, MONOTONIC, 0, 0)?
-        .any_until(rt, 1, 7, REAL_TIME, 4, 5)?
-        .any_until(rt, 1, 7, REAL_TIME, 5, 5)?
-        .any_until(rt, 1, 7, REAL_TIME, 6, 5)?;
+        .wait_any(rt, &[1], Terms::of(7).until(MONOTONIC, 0, 5))?
+        .wait_any(rt, &[1], Terms::of(7).until(MONOTONIC, 0, 0))?
+        .wait_any(rt, &[1], Terms::of(7).until(REAL_TIME, 4, 5))?
+        .wait_any(rt, &[1], Terms::of(7).until(REAL_TIME, 5, 5))?
+        .wait_any(rt, &[1], Terms::of(7).until(REAL_TIME, 6, 5))?;
     Ok(())
 }
 
 // No time is kept: a wait that ends at 600 is queued at 500 though 900 was told before.
 fn going_back(rt: &impl Print) -> io::Result<()> {
     unsignaled(rt)?
-        .any_until(rt, 1, 7, MONOTONIC, 1000, 0)?
+        .wait_any(rt, &[1], Terms::of(7).until(MONOTONIC, 1000, 0))?
         .expire(rt, MONOTONIC, 900)?
         .expire(rt, MONOTONIC, 500)?
-        .any_until(rt, 1, 8, MONOTONIC, 600, 700)?
-        .any_until(rt, 1, 8, MONOTONIC, 600, 500)?
+        .wait_any(rt, &[1], Terms::of(8).until(MONOTONIC, 600, 700))?
+        .wait_any(rt, &[1], Terms::of(8).until(MONOTONIC, 600, 500))?
         .expire(rt, MONOTONIC, 599)?
         .expire(rt, MONOTONIC, 600)?
         .expire(rt, MONOTONIC, 1000)?;
@@ -71,24 +70,21 @@ fn going_back(rt: &impl Print) -> io::Result<()> {
 // Ticket 4 stands in the first place and has the earliest time; it is told last.
 fn by_ticket(rt: &impl Print) -> io::Result<()> {
     let t = unsignaled(rt)?
-        .any_until(rt, 1, 7, MONOTONIC, 30, 0)?
-        .any_until(rt, 1, 8, MONOTONIC, 20, 0)?
-        .any_until(rt, 1, 9, MONOTONIC, 10, 0)?
+        .wait_any(rt, &[1], Terms::of(7).until(MONOTONIC, 30, 0))?
+        .wait_any(rt, &[1], Terms::of(8).until(MONOTONIC, 20, 0))?
+        .wait_any(rt, &[1], Terms::of(9).until(MONOTONIC, 10, 0))?
         .cancel(rt, 1)?
-        .any_until(rt, 1, 10, MONOTONIC, 5, 0)?;
-    print::counted(
-        rt,
-        b"ticket in the first wait place:",
-        t.cell(memory::WAITS),
-    )?;
+        .wait_any(rt, &[1], Terms::of(10).until(MONOTONIC, 5, 0))?;
+    let ticket = t.cell(Cell::Wait(0, WaitCell::Ticket));
+    println!(rt; "ticket in the first wait place: {ticket}")?;
     t.expire(rt, MONOTONIC, 20)?;
     Ok(())
 }
 
 fn other_clocks(rt: &impl Print) -> io::Result<()> {
     unsignaled(rt)?
-        .any_until(rt, 1, 7, MONOTONIC, 30, 0)?
-        .any_until(rt, 1, 7, REAL_TIME, 30, 0)?
+        .wait_any(rt, &[1], Terms::of(7).until(MONOTONIC, 30, 0))?
+        .wait_any(rt, &[1], Terms::of(7).until(REAL_TIME, 30, 0))?
         .expire(rt, 2, 100)?
         .expire(rt, 4294967295, 100)?
         .expire(rt, MONOTONIC, 100)?
@@ -97,11 +93,10 @@ fn other_clocks(rt: &impl Print) -> io::Result<()> {
 }
 
 pub fn cases(rt: &impl Print) -> io::Result<()> {
-    print::heading(rt, b"clocks")?;
+    println!(rt; "-- clocks")?;
     both(rt)?;
     at_once(rt)?;
     going_back(rt)?;
     by_ticket(rt)?;
-    other_clocks(rt)?;
-    Ok(())
+    other_clocks(rt)
 }

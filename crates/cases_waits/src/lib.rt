@@ -15,6 +15,5 @@ pub fn cases(rt: &impl Print) -> io::Result<()> {
     slips::cases(rt)?;
     queues::cases(rt)?;
     clocks::cases(rt)?;
-    sleeps::cases(rt)?;
-    Ok(())
+    sleeps::cases(rt)
 }

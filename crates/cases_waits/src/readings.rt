@@ -1,15 +1,12 @@
 // The bench readings P1 to P12 of document 01, each on newly made tables. The objects are read at the end.
 use call_lines::memory::Tables;
-use call_lines::print;
-use call_lines::waiting::NEVER;
+use call_lines::waiting::{NEVER, Terms};
 use std::io;
 
 const MOST: u32 = 4294967295;
 
-fn reading(rt: &impl Print, number: u64) -> io::Result<Tables> {
-    print::text(rt, b"P")?;
-    print::bare(rt, number)?;
-    print::end(rt)?;
+fn reading(rt: &impl Print, number: u32) -> io::Result<Tables> {
+    println!(rt; "P{number}")?;
     Ok(Tables::new())
 }
 
@@ -41,8 +38,8 @@ fn posts(rt: &impl Print) -> io::Result<()> {
 // Cancelling shows which of the two waits is still queued.
 fn pulsed(rt: &impl Print, t: Tables, manual: u32) -> io::Result<()> {
     t.create_event(rt, 0, manual)?
-        .any(rt, 1, 7)?
-        .any(rt, 1, 8)?
+        .any(rt, &[1], 7)?
+        .any(rt, &[1], 8)?
         .pulse(rt, 1)?
         .read_event(rt, 1)?
         .cancel(rt, 1)?
@@ -52,25 +49,24 @@ fn pulsed(rt: &impl Print, t: Tables, manual: u32) -> io::Result<()> {
 
 fn pulses(rt: &impl Print) -> io::Result<()> {
     pulsed(rt, reading(rt, 5)?, 0)?;
-    pulsed(rt, reading(rt, 6)?, 1)?;
-    Ok(())
+    pulsed(rt, reading(rt, 6)?, 1)
 }
 
 fn mutexes(rt: &impl Print) -> io::Result<()> {
     reading(rt, 7)?
         .create_mutex(rt, 5, 1)?
-        .any(rt, 1, 6)?
-        .any(rt, 1, 6)?
+        .any(rt, &[1], 6)?
+        .any(rt, &[1], 6)?
         .unlock(rt, 1, 5)?
         .read_mutex(rt, 1)?;
     reading(rt, 8)?
         .create_mutex(rt, 5, 1)?
-        .any(rt, 1, 6)?
+        .any(rt, &[1], 6)?
         .kill_owner(rt, 1, 5)?
         .read_mutex(rt, 1)?;
     reading(rt, 9)?
         .create_mutex(rt, 5, MOST)?
-        .any(rt, 1, 5)?
+        .any(rt, &[1], 5)?
         .unlock(rt, 1, 5)?
         .read_mutex(rt, 1)?;
     Ok(())
@@ -79,7 +75,7 @@ fn mutexes(rt: &impl Print) -> io::Result<()> {
 fn listed_as_alert(rt: &impl Print) -> io::Result<()> {
     reading(rt, 10)?
         .create_event(rt, 1, 0)?
-        .any_two_alert(rt, 1, 1, 7, 1)?
+        .wait_any(rt, &[1, 1], Terms::of(7).alerted(1))?
         .read_event(rt, 1)?;
     Ok(())
 }
@@ -87,23 +83,22 @@ fn listed_as_alert(rt: &impl Print) -> io::Result<()> {
 fn timeouts(rt: &impl Print) -> io::Result<()> {
     reading(rt, 11)?
         .create_event(rt, 0, 0)?
-        .any_until(rt, 1, 7, 0, 100, 100)?
-        .any_until(rt, 1, 7, 0, 101, 100)?
+        .wait_any(rt, &[1], Terms::of(7).until(0, 100, 100))?
+        .wait_any(rt, &[1], Terms::of(7).until(0, 101, 100))?
         .read_event(rt, 1)?;
     reading(rt, 12)?
         .create_event(rt, 0, 0)?
-        .any_until(rt, 1, 7, 0, NEVER, NEVER)?
+        .wait_any(rt, &[1], Terms::of(7).until(0, NEVER, NEVER))?
         .read_event(rt, 1)?;
     Ok(())
 }
 
 pub fn cases(rt: &impl Print) -> io::Result<()> {
-    print::heading(rt, b"bench readings")?;
+    println!(rt; "-- bench readings")?;
     all_queued(rt)?;
     posts(rt)?;
     pulses(rt)?;
     mutexes(rt)?;
     listed_as_alert(rt)?;
-    timeouts(rt)?;
-    Ok(())
+    timeouts(rt)
 }

@@ -1,17 +1,18 @@
 // Waits for any of no objects: the alert, the time or a cancel ends them. For all they are refused.
 use call_lines::memory::Tables;
-use call_lines::print;
-use call_lines::waiting::NEVER;
+use call_lines::waiting::{NEVER, Terms};
 use std::io;
 
 const MONOTONIC: u32 = 0;
 
 fn sleep(rt: &impl Print, t: Tables, alert: u32, timeout: u64, time: u64) -> io::Result<Tables> {
-    t.wait_any(rt, &[0u32; 0], 7, alert, MONOTONIC, 0, timeout, time)
+    let terms = Terms::of(7).until(MONOTONIC, timeout, time).alerted(alert);
+    t.wait_any(rt, &[], terms)
 }
 
 fn all_of_none(rt: &impl Print, t: Tables, alert: u32) -> io::Result<Tables> {
-    t.wait_all(rt, &[0u32; 0], 7, alert, MONOTONIC, 0, NEVER, 0)
+    let terms = Terms::of(7).alerted(alert);
+    t.wait_all(rt, &[], terms)
 }
 
 // The index is the list's length; an auto event is cleared, a manual one is not.
@@ -52,12 +53,12 @@ fn for_good(rt: &impl Print, t: Tables, auto: u32) -> io::Result<Tables> {
 }
 
 pub fn cases(rt: &impl Print) -> io::Result<()> {
-    print::heading(rt, b"waits for no objects")?;
-    let t = for_good(
-        rt,
-        by_time(rt, alert_at_once(rt, by_alert(rt, 1, 2)?, 1)?)?,
-        1,
-    )?;
-    all_of_none(rt, all_of_none(rt, t, 0)?, 1)?;
+    println!(rt; "-- waits for no objects")?;
+    let t = by_alert(rt, 1, 2)?;
+    let t = alert_at_once(rt, t, 1)?;
+    let t = by_time(rt, t)?;
+    let t = for_good(rt, t, 1)?;
+    let t = all_of_none(rt, t, 0)?;
+    all_of_none(rt, t, 1)?;
     Ok(())
 }

@@ -15,6 +15,5 @@ fn main(rt: HostRuntime) -> io::Result<()> {
     cases_waits::cases(&rt)?;
     cases_refused::cases(&rt)?;
     cases_objects::snapshot_cases(&rt)?;
-    cases_restore::cases(&rt)?;
-    Ok(())
+    cases_restore::cases(&rt)
 }
