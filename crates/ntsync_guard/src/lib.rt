@@ -15,7 +15,7 @@ pub const CORRUPT: u32 = 9;
 pub const LIST_SHORT: u32 = 12;
 
 // A record for every wait place.
-const WAKE_LENGTH: usize = 3 * tables::WAIT_PLACES;
+pub const WAKE_LENGTH: usize = 3 * tables::WAIT_PLACES;
 
 // The lent tables, where they are valid.
 pub fn sound(tables: &[u64]) -> Result<&Cells, Refusal>

@@ -1,12 +1,10 @@
-use Rattle.ntsync_signals.proofs.Laws.{wakes_length, wakes_long, expire_refused, expire_done}
-use native.Mathlib.Omega.{arith}
+use Rattle.std.specs.Prelude.{ℕ, List}
+use borrow.Author.Rules.{rules}
+use Rattle.model.specs.Calls.{wake_lent}
+use Rattle.cells.specs.Calls.{expire_on}
+use Rattle.ntsync_signals.proofs.Laws.{expire_told}
 use Rattle.ntsync_signals.proofs.expire.Goals as goal
 
-pub returns-then-answer-ne0 : goal.returns-then-answer-ne0
-returns-then-answer-ne0 c = let a = c.args in expire_refused a.tables.now a.wake.now c.refused-answer.ensures a.clock a.time (λ i. omega (arith, c.slice_known-1.given i)) c.if-answer-ne0.true
-
-pub expire-requires : goal.expire-requires
-expire-requires c = let a = c.args in (wakes_length a.tables.now a.wake.now c.refused-answer.ensures c.if-answer-ne0.false, wakes_long a.tables.now a.wake.now c.refused-answer.ensures c.if-answer-ne0.false)
-
 pub returns : goal.returns
-returns c = let a = c.args in expire_done a.tables.now a.wake.now c.refused-answer.ensures a.clock a.time (λ i. omega (arith, c.slice_known-1.given i)) c.if-answer-ne0.false c.expire.ensures
+returns c = let a = c.args in expire_told a.tables.now a.wake.now c.guarded.result (λ i. search rules) c.from.ensures a.clock a.time
+    (c.guarded.ensures (λ (t w : List ℕ). expire_on a.clock a.time t (wake_lent w)) (λ t w r u v q. search rules))

@@ -1,13 +1,11 @@
-use Rattle.model.specs.Calls.{set_event}
-use Rattle.ntsync_signals.proofs.Laws.{wakes_valid, wakes_length, wakes_long, signal_refused, signal_done}
-use native.Mathlib.Omega.{arith}
+use Rattle.std.specs.Prelude.{ℕ, List}
+use borrow.Author.Rules.{rules}
+use Rattle.model.specs.Calls.{set_event, wake_lent}
+use Rattle.cells.specs.Objects.{named}
+use Rattle.cells.specs.Calls.{signal_on}
+use Rattle.ntsync_signals.proofs.Laws.{signal_told}
 use Rattle.ntsync_signals.proofs.set.Goals as goal
 
-pub returns-then-answer-ne0 : goal.returns-then-answer-ne0
-returns-then-answer-ne0 c = let a = c.args in signal_refused a.tables.now a.wake.now c.refused-answer.ensures set_event a.handle (λ i. omega (arith, c.slice_known-1.given i)) c.if-answer-ne0.true
-
-pub set-requires : goal.set-requires
-set-requires c = let a = c.args in (wakes_length a.tables.now a.wake.now c.refused-answer.ensures c.if-answer-ne0.false, wakes_valid a.tables.now a.wake.now c.refused-answer.ensures c.if-answer-ne0.false, wakes_long a.tables.now a.wake.now c.refused-answer.ensures c.if-answer-ne0.false)
-
 pub returns : goal.returns
-returns c = let a = c.args in signal_done a.tables.now a.wake.now c.refused-answer.ensures set_event a.handle (λ i. omega (arith, c.slice_known-1.given i)) c.if-answer-ne0.false c.set.ensures
+returns c = let a = c.args in signal_told a.tables.now a.wake.now c.guarded.result (λ i. search rules) c.from.ensures set_event a.handle
+    (c.guarded.ensures (λ (t w : List ℕ). signal_on set_event a.handle (named t a.handle) t (wake_lent w)) (λ t w r u v q. search rules))
