@@ -190,10 +190,6 @@ module _ (key : List ℕ) (low high : ℕ) (t : List ℕ) where
       pub in_range : low ≤ n → number_of key low high t ≡ good n rest
       in_range l = keyed ∙ rw (h, le-leb low n l)
 
-pub number_of_lem : (key : String) (low high : ℕ) (t : List ℕ) → number_line key low high t ≡ number_of (ascii key) low high t
-unfolding number_line number_of line
-number_of_lem key low high t = refl
-
 -- ONE READING AFTER ANOTHER, as code makes them
 module _ {A B : Type 0} (m : Reader A) (f : A → Reader B) (t : List ℕ) where
   pub seq_on : {a : A} {rest : List ℕ} → m t ≡ good a rest → (m >>= f) t ≡ f a rest

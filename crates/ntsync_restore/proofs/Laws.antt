@@ -2,17 +2,16 @@
 use mathlib.Core.Path.{◌≡◌, refl, ap, sym, ◌∙◌}
 use mathlib.Core.Bool.{Bool, true, false, not, cond, and-true}
 use mathlib.Core.List.{List, [], ◌∷◌}
-use Prim.Native.Nat.{ℕ, ◌-◌, ◌≤◌}
-use native.Mathlib.Omega.{arith}
-use lib.ListN.{length, replicate, drop, length-drop}
+use Prim.Native.Nat.{ℕ, ◌-◌}
+use lib.ListN.{length, replicate}
 use Rattle.model.specs.Basics.{all_of}
 use Rattle.model.specs.Calls.{nothing_lent}
 use Rattle.model.specs.Layout.{table_length, encode, valid_state, valid_tables}
 use Rattle.model.specs.Steps.{Outcome, sees, seen, unaltered}
-use Rattle.model.specs.Reading.{Read, good, bad, Lines, read_snapshot}
+use Rattle.model.specs.Reading.{good, Lines, read_snapshot}
 use Rattle.model.specs.Restore.{shown, quiet, Restored, accepted, refused, restored, by_restored, unread, restore_tables}
 use Rattle.model.specs.RestoreTests.{in_order}
-use Rattle.model.proofs.Logic.{by_bool, clash}
+use Rattle.model.proofs.Logic.{by_bool}
 use Rattle.model.proofs.Validity.{test_valid}
 use Rattle.model.proofs.ReadExactly.{Sensible, snapshot_exact}
 use Rattle.model.proofs.Theorems.{reading, restored_by_tests}
@@ -24,7 +23,7 @@ use Rattle.model.specs.Waits.{State}
 use Rattle.model.proofs.Cells.{Shaped}
 use Rattle.reader.specs.Values.{AllStored, Stopped}
 use Rattle.ntsync_restore.specs.Judged.{JudgedAs}
-use Rattle.std.specs.Prelude.{Result, Ok, Err}
+use Rattle.std.specs.Prelude.{Ok, Err}
 use Rattle.ntsync_restore.specs.declared.Refused.{Refused}
 use Rattle.reader.proofs.Storing.{built_is, shown_shaped, shaped_test}
 
