@@ -4,48 +4,72 @@
 ghost use Rattle.std.specs.Prelude.{◌≡◌, [], ◌∷◌};
 ghost use Rattle.model.specs.Calls.{close, reset_event, cancel, nothing_lent, asks};
 ghost use Rattle.model.specs.Steps.{table_step, seen, sees};
+ghost use Rattle.cells.specs.Calls.{guarded, close_cells, reset_cells, cancel_cells};
+ghost use Rattle.calls.specs.Values.{left_by, done, number, answer};
 
-use ntsync_guard::CORRUPT;
-use signals::Changed;
+use kinds::Refusal;
+use ntsync_guard::sound;
+use signals::{Changed, Woke};
+
+fn try_close(tables: &mut [u64], handle: u32) -> Result<(), Refusal>
+    ensures { left_by done result tables.new
+        ≡ guarded nothing_lent tables.old (close_cells handle tables.old nothing_lent) }
+{
+    let Some(t) = tables.as_mut_array() else {
+        return Err(Refusal::Corrupt);
+    };
+    sound(t)?;
+    calls::close(t, u64::from(handle))
+}
 
 pub fn close(tables: &mut [u64], handle: u32) -> u32
     ensures { seen (table_step tables.old (asks (close handle) nothing_lent))
         ≡ sees (result ∷ 0 ∷ 0 ∷ 0 ∷ []) nothing_lent tables.new }
 {
-    let corrupt = !validity::valid(tables);
-    if corrupt {
-        return CORRUPT;
+    match try_close(tables, handle) {
+        Ok(()) => 0,
+        Err(r) => u32::from(r),
     }
-    calls::close(tables, handle as u64)
+}
+
+fn try_reset(tables: &mut [u64], handle: u32) -> Result<u32, Refusal>
+    ensures { left_by number result tables.new
+        ≡ guarded nothing_lent tables.old (reset_cells handle tables.old nothing_lent) }
+{
+    let Some(t) = tables.as_mut_array() else {
+        return Err(Refusal::Corrupt);
+    };
+    sound(t)?;
+    calls::reset(t, u64::from(handle))
 }
 
 pub fn reset(tables: &mut [u64], handle: u32) -> Changed
     ensures { seen (table_step tables.old (asks (reset_event handle) nothing_lent))
         ≡ sees (result.answer ∷ result.previous ∷ 0 ∷ result.woken ∷ []) nothing_lent tables.new }
 {
-    let corrupt = !validity::valid(tables);
-    if corrupt {
-        return Changed {
-            answer: CORRUPT,
-            previous: 0,
-            woken: 0,
-        };
+    match try_reset(tables, handle) {
+        Ok(previous) => Changed::from(Ok(Woke { previous, woken: 0 })),
+        Err(r) => Changed::from(Err(r)),
     }
-    let r = calls::reset(tables, handle as u64);
-    Changed {
-        answer: r.answer,
-        previous: r.number,
-        woken: 0,
-    }
+}
+
+fn try_cancel(tables: &mut [u64], ticket: u64) -> Result<u32, Refusal>
+    ensures { left_by answer result tables.new
+        ≡ guarded nothing_lent tables.old (cancel_cells ticket tables.old nothing_lent) }
+{
+    let Some(t) = tables.as_mut_array() else {
+        return Err(Refusal::Corrupt);
+    };
+    sound(t)?;
+    calls::cancel(t, ticket)
 }
 
 pub fn cancel(tables: &mut [u64], ticket: u64) -> u32
     ensures { seen (table_step tables.old (asks (cancel ticket) nothing_lent))
         ≡ sees (result ∷ 0 ∷ 0 ∷ 0 ∷ []) nothing_lent tables.new }
 {
-    let corrupt = !validity::valid(tables);
-    if corrupt {
-        return CORRUPT;
+    match try_cancel(tables, ticket) {
+        Ok(answer) => answer,
+        Err(r) => u32::from(r),
     }
-    calls::cancel(tables, ticket)
 }

@@ -35,9 +35,7 @@ pub fn tested(tables: &[u64], wake: &[u64]) -> Result<(), Refusal>
     ensures { answer_of result ≡ cond (valid_cells tables.now)
         (cond (ltb (length wake.now) wake_length) 12 0) 9 }
 {
-    if !validity::valid(tables) {
-        return Err(Refusal::Corrupt);
-    }
+    sound(tables)?;
     if wake.len() < WAKE_LENGTH {
         return Err(Refusal::ListShort);
     }

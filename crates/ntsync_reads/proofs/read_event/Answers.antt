@@ -5,4 +5,4 @@ use native.Mathlib.Omega.{arith}
 use Rattle.ntsync_reads.proofs.read_event.Goals as goal
 
 pub returns : goal.returns
-returns c = let a = c.args in means (read an_event a.handle) a.tables.now nothing_lent (λ i. omega (arith, c.shared_slice_known-1.given i)) (c.from.ensures _ ∙ c.event.ensures)
+returns c = let a = c.args in means (read an_event a.handle) a.tables.now nothing_lent (λ i. omega (arith, c.type_inv.tables i)) (c.from.ensures _ ∙ c.event.ensures)

@@ -1,0 +1,6 @@
+use Rattle.model.specs.Calls.{nothing_lent}
+use Rattle.ntsync_guard.proofs.Laws.{guarded_short}
+use Rattle.ntsync_changes.proofs.try_cancel.Goals as goal
+
+pub returns-in_default : goal.returns-in_default
+returns-in_default c = guarded_short c.args.tables.now nothing_lent _ c.in_default.ensures.cases
