@@ -5,10 +5,15 @@ ghost use Rattle.std.specs.Prelude.{◌≡◌, [], ◌∷◌};
 ghost use Rattle.model.specs.Calls.{wait, nothing_lent, asks};
 ghost use Rattle.model.specs.Steps.{table_step, seen, sees};
 ghost use Rattle.model.specs.Waits.{any, all};
-ghost use Rattle.cells.specs.Calls.{answered, wait_on_cells, guarded};
+ghost use Rattle.cells.specs.Calls.{wait_on_cells, guarded};
+ghost use Rattle.waits.specs.Values.{waited_by};
+ghost use Rattle.ntsync_waits.specs.Values.{WaitedBy};
 
-use ntsync_guard::CORRUPT;
+use kinds::Refusal;
+use tables::Terms;
+use waits::Outcome;
 
+// kept: the C interface's struct, an answer with two numbers beside it
 #[repr(C)]
 #[derive(Clone, Copy)]
 pub struct Waited {
@@ -17,46 +22,57 @@ pub struct Waited {
     pub ticket: u64,
 }
 
+// The numbers of include/ntsync.h.
+impl From<Result<Outcome, Refusal>> for Waited {
+    ghost from_gives = { WaitedBy };
+
+    fn from(r: Result<Outcome, Refusal>) -> Waited {
+        let (answer, index, ticket) = match r {
+            Ok(Outcome::Served { index, abandoned }) => (if abandoned { 4 } else { 0 }, index, 0),
+            Ok(Outcome::TimedOut) => (5, 0, 0),
+            Ok(Outcome::Queued { ticket }) => (11, 0, ticket),
+            Err(r) => (u32::from(r), 0, 0),
+        };
+        Waited {
+            answer,
+            index,
+            ticket,
+        }
+    }
+}
+
+// What C hands over, as the cells hold it.
+fn terms(mode: u64, owner: u32, flags: u32, timeout: u64, alert: u32) -> Terms
+    ensures { result ≡ record { mode = mode; owner = owner; clock = flags; timeout = timeout; alert = alert } }
+{
+    Terms {
+        mode,
+        owner: u64::from(owner),
+        clock: u64::from(flags),
+        timeout,
+        alert: u64::from(alert),
+    }
+}
+
+// A wait in valid tables.
 fn wait(
     tables: &mut [u64],
+    terms: Terms,
     list: &[u32],
-    owner: u32,
-    alert: u32,
-    mode: u64,
-    flags: u32,
     pad: u32,
-    timeout: u64,
     time: u64,
-) -> Waited
-    ensures { answered result.answer result.index result.ticket tables.new nothing_lent
-        ≡ guarded nothing_lent tables.old
-        (wait_on_cells mode list.now owner flags pad alert timeout time
+) -> Result<Outcome, Refusal>
+    ensures { waited_by result tables.new ≡ guarded nothing_lent tables.old
+        (wait_on_cells terms.mode list.now terms.owner terms.clock pad terms.alert terms.timeout time
         tables.old nothing_lent) }
 {
-    let corrupt = !validity::valid(tables);
-    if corrupt {
-        return Waited {
-            answer: CORRUPT,
-            index: 0,
-            ticket: 0,
-        };
+    let Some(t) = tables.as_mut_array() else {
+        return Err(Refusal::Corrupt);
+    };
+    if !validity::valid(t) {
+        return Err(Refusal::Corrupt);
     }
-    let r = waits::wait(
-        tables,
-        mode,
-        list,
-        owner as u64,
-        flags as u64,
-        pad as u64,
-        alert as u64,
-        timeout,
-        time,
-    );
-    Waited {
-        answer: r.answer,
-        index: r.index as u32,
-        ticket: r.ticket,
-    }
+    waits::wait(t, terms, list, u64::from(pad), time)
 }
 
 pub fn wait_any(
@@ -73,7 +89,13 @@ pub fn wait_any(
         (asks (wait any list.now owner flags pad alert timeout time) nothing_lent))
         ≡ sees (result.answer ∷ result.index ∷ result.ticket ∷ 0 ∷ []) nothing_lent tables.new }
 {
-    wait(tables, list, owner, alert, 0, flags, pad, timeout, time)
+    Waited::from(wait(
+        tables,
+        terms(0, owner, flags, timeout, alert),
+        list,
+        pad,
+        time,
+    ))
 }
 
 pub fn wait_all(
@@ -90,5 +112,11 @@ pub fn wait_all(
         (asks (wait all list.now owner flags pad alert timeout time) nothing_lent))
         ≡ sees (result.answer ∷ result.index ∷ result.ticket ∷ 0 ∷ []) nothing_lent tables.new }
 {
-    wait(tables, list, owner, alert, 1, flags, pad, timeout, time)
+    Waited::from(wait(
+        tables,
+        terms(1, owner, flags, timeout, alert),
+        list,
+        pad,
+        time,
+    ))
 }
