@@ -3,8 +3,11 @@
 #![tactic(auto)]
 
 ghost use Rattle.std.specs.Prelude.{◌≡◌, length, take, ◌*◌, ◌≤◌};
-ghost use Rattle.model.specs.Calls.{signal, expire, post, unlock, kill, set_event, pulse_event, wake_lent, asks};
+ghost use Rattle.model.specs.Calls.{Operation, signal, expire, post, unlock, kill, set_event, pulse_event, wake_lent, asks};
 ghost use Rattle.model.specs.Steps.{table_step, handed, hands};
+ghost use Rattle.ntsync_fronts.specs.Asked.{Answers};
+
+use signals::Changed;
 
 fn front<'a>(wake: &'a mut [u64], woken: u32) -> &'a mut [u64]
     requires { 3 * woken ≤ length wake.old }
@@ -12,6 +15,24 @@ fn front<'a>(wake: &'a mut [u64], woken: u32) -> &'a mut [u64]
 {
     let end = 3 * (woken as usize);
     &mut wake[..end]
+}
+
+// A call that wakes, and the front of the wake list that it filled.
+fn filled<'a, F: FnOnce(&mut [u64], &mut [u64]) -> Changed>(
+    tables: &mut [u64],
+    wake: &'a mut [u64],
+    res: &mut [u64; 3],
+    call: F,
+) -> &'a mut [u64]
+    requires callable { F.IsAlwaysCallable call }
+    requires answers { (op : Operation) × Answers (F.post call) op }
+    ensures filled { (op : Operation) → Answers (F.post call) op
+        → handed (table_step tables.old (asks op (wake_lent wake.old))) ≡ hands res.new result.now tables.new }
+    ensures place { result.ref_ptr ≡ wake.entry.ref_ptr }
+{
+    let r = call(tables, wake);
+    *res = [u64::from(r.answer), u64::from(r.previous), u64::from(r.woken)];
+    front(wake, r.woken)
 }
 
 pub fn post_woken<'a>(
@@ -25,9 +46,7 @@ pub fn post_woken<'a>(
         (asks (signal (post add) handle) (wake_lent wake.old)))
         ≡ hands res.new result.now tables.new) × (result.ref_ptr ≡ wake.entry.ref_ptr) }
 {
-    let r = ntsync_signals::post(tables, wake, handle, add);
-    *res = [r.answer as u64, r.previous as u64, r.woken as u64];
-    front(wake, r.woken)
+    filled(tables, wake, res, |t, w| ntsync_signals::post(t, w, handle, add))
 }
 
 pub fn unlock_woken<'a>(
@@ -41,9 +60,7 @@ pub fn unlock_woken<'a>(
         (asks (signal (unlock owner) handle) (wake_lent wake.old)))
         ≡ hands res.new result.now tables.new) × (result.ref_ptr ≡ wake.entry.ref_ptr) }
 {
-    let r = ntsync_signals::unlock(tables, wake, handle, owner);
-    *res = [r.answer as u64, r.previous as u64, r.woken as u64];
-    front(wake, r.woken)
+    filled(tables, wake, res, |t, w| ntsync_signals::unlock(t, w, handle, owner))
 }
 
 pub fn kill_owner_woken<'a>(
@@ -57,9 +74,7 @@ pub fn kill_owner_woken<'a>(
         (asks (signal (kill owner) handle) (wake_lent wake.old)))
         ≡ hands res.new result.now tables.new) × (result.ref_ptr ≡ wake.entry.ref_ptr) }
 {
-    let r = ntsync_signals::kill_owner(tables, wake, handle, owner);
-    *res = [r.answer as u64, r.previous as u64, r.woken as u64];
-    front(wake, r.woken)
+    filled(tables, wake, res, |t, w| ntsync_signals::kill_owner(t, w, handle, owner))
 }
 
 pub fn set_woken<'a>(
@@ -72,9 +87,7 @@ pub fn set_woken<'a>(
         (asks (signal set_event handle) (wake_lent wake.old)))
         ≡ hands res.new result.now tables.new) × (result.ref_ptr ≡ wake.entry.ref_ptr) }
 {
-    let r = ntsync_signals::set(tables, wake, handle);
-    *res = [r.answer as u64, r.previous as u64, r.woken as u64];
-    front(wake, r.woken)
+    filled(tables, wake, res, |t, w| ntsync_signals::set(t, w, handle))
 }
 
 pub fn pulse_woken<'a>(
@@ -87,9 +100,7 @@ pub fn pulse_woken<'a>(
         (asks (signal pulse_event handle) (wake_lent wake.old)))
         ≡ hands res.new result.now tables.new) × (result.ref_ptr ≡ wake.entry.ref_ptr) }
 {
-    let r = ntsync_signals::pulse(tables, wake, handle);
-    *res = [r.answer as u64, r.previous as u64, r.woken as u64];
-    front(wake, r.woken)
+    filled(tables, wake, res, |t, w| ntsync_signals::pulse(t, w, handle))
 }
 
 pub fn expire_woken<'a>(
@@ -102,7 +113,5 @@ pub fn expire_woken<'a>(
     ensures { (handed (table_step tables.old (asks (expire clock time) (wake_lent wake.old)))
         ≡ hands res.new result.now tables.new) × (result.ref_ptr ≡ wake.entry.ref_ptr) }
 {
-    let r = ntsync_signals::expire(tables, wake, clock, time);
-    *res = [r.answer as u64, r.previous as u64, r.woken as u64];
-    front(wake, r.woken)
+    filled(tables, wake, res, |t, w| ntsync_signals::expire(t, w, clock, time))
 }

@@ -1,9 +1,9 @@
-use Rattle.model.specs.Calls.{signal, set_event, wake_lent, asks}
-use Rattle.ntsync_fronts.proofs.Laws.{front_room, handed_is}
+use borrow.Author.Rules.{rules}
+use Rattle.model.specs.Calls.{signal, set_event}
 use Rattle.ntsync_fronts.proofs.set_woken.Goals as goal
 
-pub front-requires : goal.front-requires
-front-requires c = let a = c.args in front_room a.tables.now (asks (signal set_event a.handle) (wake_lent a.wake.now)) c.set-r.ensures
+pub filled-requires-clause-answers : goal.filled-requires-clause-answers
+filled-requires-clause-answers c = (signal set_event c.args.handle, λ t w r u v q. search rules)
 
 pub returns : goal.returns
-returns c = let a = c.args in (handed_is a.tables.now (asks (signal set_event a.handle) (wake_lent a.wake.now)) c.set-r.ensures c.front.ensures.0, c.front.ensures.1)
+returns c = (c.filled.ensures.filled (signal set_event c.args.handle) (λ t w r u v q. search rules), c.filled.ensures.place)

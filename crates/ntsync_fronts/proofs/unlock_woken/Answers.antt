@@ -1,9 +1,9 @@
-use Rattle.model.specs.Calls.{signal, unlock, wake_lent, asks}
-use Rattle.ntsync_fronts.proofs.Laws.{front_room, handed_is}
+use borrow.Author.Rules.{rules}
+use Rattle.model.specs.Calls.{signal, unlock}
 use Rattle.ntsync_fronts.proofs.unlock_woken.Goals as goal
 
-pub front-requires : goal.front-requires
-front-requires c = let a = c.args in front_room a.tables.now (asks (signal (unlock a.owner) a.handle) (wake_lent a.wake.now)) c.unlock-r.ensures
+pub filled-requires-clause-answers : goal.filled-requires-clause-answers
+filled-requires-clause-answers c = (signal (unlock c.args.owner) c.args.handle, λ t w r u v q. search rules)
 
 pub returns : goal.returns
-returns c = let a = c.args in (handed_is a.tables.now (asks (signal (unlock a.owner) a.handle) (wake_lent a.wake.now)) c.unlock-r.ensures c.front.ensures.0, c.front.ensures.1)
+returns c = (c.filled.ensures.filled (signal (unlock c.args.owner) c.args.handle) (λ t w r u v q. search rules), c.filled.ensures.place)
