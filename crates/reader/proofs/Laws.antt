@@ -17,10 +17,10 @@ use Rattle.cells.specs.Objects.{store}
 use Rattle.cells.specs.Calls.{put_header, put_list}
 use Rattle.refine.proofs.Objects.{fields_of}
 use Rattle.kinds.specs.Values.{cells_of}
-use Rattle.kinds.specs.declared.Object.{Object as Cells}
+use Rattle.kinds.specs.declared.object.Object.{Object as Cells}
 use Rattle.lines.specs.Outcome.{either_of}
 use Rattle.lines.proofs.Laws.{either_word, Begun, none_read, next_bad, next_read, all_read}
-use Rattle.reader.specs.declared.Header.{Header}
+use Rattle.tables.specs.declared.Header.{Header}
 use Rattle.reader.specs.Storing.{stored, queued_from}
 use Rattle.reader.specs.Values.{mode_words, mode_of, clock_words, object_from, IsObject, wait_from, ObjectsStored, WaitsStored}
 
@@ -126,8 +126,8 @@ module _ (n : ℕ) (text t₀ t : List ℕ) (p : ℕ) (rest : List ℕ) (o : Boo
   pub wait_bad : (from : List ℕ) → p < n → read_wait rest ≡ bad from → times n read_wait text ≡ bad from
   wait_bad from l h = next_bad read_wait n text q.waits p rest q.begun from l h
 
-  pub wait_queued : (x : Header) (list rest' t₁ t₂ : List ℕ) → p < n → read_wait rest ≡ good (wait_from x list) rest' → mode_cell (mode_of x.mode) ≡ x.mode → x.listed ≤ length list
-      → t₁ ≡ put_header t p x.ticket x.mode x.owner x.clock x.timeout x.listed x.alert → t₂ ≡ put_list t₁ p (take x.listed list) → Queueing n text t₀ t₂ (p + 1) rest' (o && ltb last x.ticket) x.ticket
+  pub wait_queued : (x : Header) (list rest' t₁ t₂ : List ℕ) → p < n → read_wait rest ≡ good (wait_from x list) rest' → mode_cell (mode_of x.terms.mode) ≡ x.terms.mode → x.listed ≤ length list
+      → t₁ ≡ put_header t p x.ticket x.terms.mode x.terms.owner x.terms.clock x.terms.timeout x.listed x.terms.alert → t₂ ≡ put_list t₁ p (take x.listed list) → Queueing n text t₀ t₂ (p + 1) rest' (o && ltb last x.ticket) x.ticket
   wait_queued x list rest' t₁ t₂ l r m k a b = let w : Wait = wait_from x list in let at : 0 + length q.waits ≡ p = (let i = q.place in omega arith) in
       let long : x.listed ≡ length (take x.listed list) = sym (length-take-le x.listed list k) in
       let here : t₂ ≡ queued_at t p w = b ∙ ap (λ (u : List ℕ). put_list u p (take x.listed list)) (a ∙ rw (m, ← long)) in record {

@@ -10,10 +10,10 @@ use Rattle.model.specs.Reading.{Read, good, bad, Reader, ◌>>=◌, word_line, r
 use Rattle.model.specs.RestoreTests.{rising, handles, tickets, in_order}
 use Rattle.refine.proofs.Objects.{fields_of}
 use Rattle.kinds.specs.Values.{cells_of}
-use Rattle.kinds.specs.declared.Object.{Object as Cells}
+use Rattle.kinds.specs.declared.object.Object.{Object as Cells}
 use Rattle.lines.specs.declared.NotDue.{NotDue}
 use Rattle.reader.specs.Storing.{stored, queued_from}
-use Rattle.reader.specs.declared.Header.{Header}
+use Rattle.tables.specs.declared.Header.{Header}
 
 abbrev pub kind_words : List (String × Kind)
 kind_words = ("kind=sem\n", a_semaphore) ∷ ("kind=mutex\n", a_mutex) ∷ ("kind=event\n", an_event) ∷ []
@@ -39,7 +39,7 @@ abbrev pub mode_of : ℕ → Mode
 mode_of n = cond (eqb n 0) any all
 
 abbrev pub wait_from : Header → List ℕ → Wait
-wait_from x list = record { ticket = x.ticket; mode = mode_of x.mode; owner = x.owner; clock = x.clock; timeout = x.timeout; alert = x.alert; list = take x.listed list }
+wait_from x list = record { ticket = x.ticket; mode = mode_of x.terms.mode; owner = x.terms.owner; clock = x.terms.clock; timeout = x.terms.timeout; alert = x.terms.alert; list = take x.listed list }
 
 -- THE CONTRACTS of what is read by value
 abbrev pub ObjectTold : Read Object → List ℕ → Result Cells NotDue → Type 0
@@ -49,7 +49,7 @@ abbrev pub EntryTold : Read (ℕ × Object) → List ℕ → Result (ℕ × Cell
 EntryTold read rest r = MatchResult r (λ x. (read ≡ good (x.0, object_from x.1) rest) × IsObject x.1) (λ e. read ≡ bad e.from.now)
 
 abbrev pub WaitTold : Read Wait → List ℕ → List ℕ → Result Header NotDue → Type 0
-WaitTold read list rest r = MatchResult r (λ x. (read ≡ good (wait_from x list) rest) × (mode_cell (mode_of x.mode) ≡ x.mode) × (x.listed ≤ max_listed)) (λ e. read ≡ bad e.from.now)
+WaitTold read list rest r = MatchResult r (λ x. (read ≡ good (wait_from x list) rest) × (mode_cell (mode_of x.terms.mode) ≡ x.terms.mode) × (x.listed ≤ max_listed)) (λ e. read ≡ bad e.from.now)
 
 -- and of what is stored as it is read: the objects, or the waits, that were read are those in the tables
 pub record ObjectsStored (read : Read (List (ℕ × Object))) (t end rest : List ℕ) (in_order : Bool) : Type 0 where

@@ -1,16 +1,16 @@
 // A snapshot's lines read back, and stored into tables as they are read.
 #![tactic(auto)]
 
-ghost use Rattle.std.specs.Prelude.{◌≡◌, ◌≤◌, length, Bool, MatchResult};
+ghost use Rattle.std.specs.Prelude.{◌≤◌, length};
 ghost use Rattle.model.specs.Sizes.{object_places, wait_places};
 ghost use Rattle.model.specs.Calls.{a_semaphore, a_mutex, an_event};
-ghost use Rattle.model.specs.Layout.{table_length};
 ghost use Rattle.model.specs.Reading.{good, bad, times, number_line, read_values, read_object, read_wait};
 ghost use Rattle.lines.specs.Outcome.{Told};
 ghost use Rattle.reader.specs.Values.{read_kinded, ObjectTold, EntryTold, ObjectsTold, WaitTold, WaitsTold, ReadAll};
 
-use kinds::{Event, Mutex, Object, Semaphore};
+use kinds::{Kind, Object};
 use lines::{Lines, NotDue};
+use tables::{Cells, Header, Terms};
 
 const HANDLES: u64 = tables::OBJECT_PLACES as u64;
 
@@ -32,10 +32,10 @@ fn read_semaphore<'a>(lines: &mut Lines<'a>) -> Result<Object, NotDue<'a>>
     let count = lines.number(b"count=", 0, MAX_32)?;
     let max = lines.number(b"max=", 0, MAX_32)?;
     Ok(Object {
-        kind: Semaphore::KIND,
+        kind: u64::from(Kind::Semaphore),
         count,
-        owner: 0,
         attribute: max,
+        ..Object::EMPTY
     })
 }
 
@@ -46,7 +46,7 @@ fn read_mutex<'a>(lines: &mut Lines<'a>) -> Result<Object, NotDue<'a>>
     let count = lines.number(b"count=", 0, MAX_32)?;
     let abandoned = lines.number(b"abandoned=", 0, 1)?;
     Ok(Object {
-        kind: Mutex::KIND,
+        kind: u64::from(Kind::Mutex),
         count,
         owner,
         attribute: abandoned,
@@ -59,10 +59,10 @@ fn read_event<'a>(lines: &mut Lines<'a>) -> Result<Object, NotDue<'a>>
     let signaled = lines.number(b"signaled=", 0, 1)?;
     let manual = lines.number(b"manual=", 0, 1)?;
     Ok(Object {
-        kind: Event::KIND,
+        kind: u64::from(Kind::Event),
         count: signaled,
-        owner: 0,
         attribute: manual,
+        ..Object::EMPTY
     })
 }
 
@@ -90,8 +90,7 @@ fn read_object<'a>(lines: &mut Lines<'a>) -> Result<(u64, Object), NotDue<'a>>
 }
 
 // As many objects as counted, stored as they are read; whether their handles rise.
-pub fn read_objects<'a>(lines: &mut Lines<'a>, n: u64, t: &mut [u64]) -> Result<bool, NotDue<'a>>
-    requires { length t.old ≡ table_length }
+pub fn read_objects<'a>(lines: &mut Lines<'a>, n: u64, t: &mut Cells) -> Result<bool, NotDue<'a>>
     ensures { ObjectsTold (times n read_object lines.old.rest.now) t.old t.new lines.new.rest.now result }
 {
     let mut last = 0;
@@ -106,17 +105,6 @@ pub fn read_objects<'a>(lines: &mut Lines<'a>, n: u64, t: &mut [u64]) -> Result<
 }
 
 // ---- a wait: its header, its list into a lent one
-
-#[derive(Clone, Copy)]
-pub struct Header {
-    pub ticket: u64,
-    pub mode: u64,
-    pub owner: u64,
-    pub clock: u64,
-    pub timeout: u64,
-    pub alert: u64,
-    pub listed: u64,
-}
 
 // As many handles as the lent list has room for.
 pub fn read_list<'a>(lines: &mut Lines<'a>, list: &mut [u64]) -> Result<(), NotDue<'a>>
@@ -146,18 +134,20 @@ pub fn read_wait<'a>(
     read_list(lines, named)?;
     Ok(Header {
         ticket,
-        mode,
-        owner,
-        clock,
-        timeout,
-        alert,
+        terms: Terms {
+            mode,
+            owner,
+            clock,
+            timeout,
+            alert,
+        },
         listed,
     })
 }
 
 // As many waits as counted, at the lowest places in their order; whether their tickets rise.
-pub fn read_waits<'a>(lines: &mut Lines<'a>, n: usize, t: &mut [u64]) -> Result<bool, NotDue<'a>>
-    requires { (length t.old ≡ table_length) × (n ≤ wait_places) }
+pub fn read_waits<'a>(lines: &mut Lines<'a>, n: usize, t: &mut Cells) -> Result<bool, NotDue<'a>>
+    requires { n ≤ wait_places }
     ensures { WaitsTold (times n read_wait lines.old.rest.now) t.old t.new lines.new.rest.now result }
 {
     let mut last = 0;
@@ -165,17 +155,7 @@ pub fn read_waits<'a>(lines: &mut Lines<'a>, n: usize, t: &mut [u64]) -> Result<
     for p in 0..n {
         let mut list = [0; tables::MAX_LISTED];
         let header = read_wait(lines, &mut list)?;
-        tables::put_header(
-            t,
-            p,
-            header.ticket,
-            header.mode,
-            header.owner,
-            header.clock,
-            header.timeout,
-            header.listed,
-            header.alert,
-        );
+        tables::put_header(t, p, header);
         tables::put_list(t, p, &list[..header.listed as usize]);
         rising &= last < header.ticket;
         last = header.ticket;
@@ -186,8 +166,7 @@ pub fn read_waits<'a>(lines: &mut Lines<'a>, n: usize, t: &mut [u64]) -> Result<
 // ---- the whole text, into tables of zeros
 
 // Whether all is in order: handles and tickets rise, the sum is right, no bytes are left.
-pub fn read_snapshot<'a>(text: &'a [u8], t: &mut [u64]) -> Result<bool, NotDue<'a>>
-    requires { length t.old ≡ table_length }
+pub fn read_snapshot<'a>(text: &'a [u8], t: &mut Cells) -> Result<bool, NotDue<'a>>
     ensures { ReadAll text.now t.old t.new result }
 {
     let mut lines = Lines { rest: text };

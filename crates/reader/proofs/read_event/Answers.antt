@@ -15,4 +15,4 @@ returns-in_err-manual c = on_err _ _ c.from_residual-in_err-manual.result c.from
 
 pub returns : goal.returns
 unfolding read_values ◌>>=◌ give number_line number_of line
-returns c = let s = flag_cell "signaled=" c.args.lines.now.rest.now c.in_ok-signaled.ensures in let m = flag_cell "manual=" c.number.new.self.rest.now c.in_ok-manual.ensures in (rw (c.in_ok-signaled.ensures, c.in_ok-manual.ensures), rw (s, m))
+returns c = rw c.from.ensures (let s = flag_cell "signaled=" c.args.lines.now.rest.now c.in_ok-signaled.ensures in let m = flag_cell "manual=" c.number.new.self.rest.now c.in_ok-manual.ensures in (rw (c.in_ok-signaled.ensures, c.in_ok-manual.ensures), rw (s, m)))

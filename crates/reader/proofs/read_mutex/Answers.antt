@@ -19,4 +19,4 @@ returns-in_err-abandoned c = on_err _ _ c.from_residual-in_err-abandoned.result 
 
 pub returns : goal.returns
 unfolding read_values ◌>>=◌ give number_line number_of line
-returns c = let a = flag_cell "abandoned=" c.number-2.new.self.rest.now c.in_ok-abandoned.ensures in (rw (c.in_ok-owner.ensures, c.in_ok-count.ensures, c.in_ok-abandoned.ensures), rw a)
+returns c = rw c.from.ensures (let a = flag_cell "abandoned=" c.number-2.new.self.rest.now c.in_ok-abandoned.ensures in (rw (c.in_ok-owner.ensures, c.in_ok-count.ensures, c.in_ok-abandoned.ensures), rw a))

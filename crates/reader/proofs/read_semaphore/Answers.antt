@@ -16,4 +16,4 @@ returns-in_err-max c = on_err _ _ c.from_residual-in_err-max.result c.from_resid
 
 pub returns : goal.returns
 unfolding read_values number_line number_of line give
-returns c = (seq_on (number32_line "count=") _ c.args.lines.now.rest.now c.in_ok-count.ensures ∙ seq_on (number32_line "max=") _ c.number.new.self.rest.now c.in_ok-max.ensures, refl)
+returns c = rw c.from.ensures ((seq_on (number32_line "count=") _ c.args.lines.now.rest.now c.in_ok-count.ensures ∙ seq_on (number32_line "max=") _ c.number.new.self.rest.now c.in_ok-max.ensures, refl))

@@ -1,4 +1,4 @@
-use Rattle.std.proofs.Common.{◌∙◌, arith}
+use Rattle.std.proofs.Common.{◌∙◌}
 use Rattle.model.specs.Sizes.{wait_places}
 use Rattle.model.specs.Snapshot.{line}
 use Rattle.model.specs.Reading.{◌>>=◌, number_line, read_snapshot}
@@ -26,7 +26,7 @@ returns-in_err-waits c = on_err _ _ c.from_residual-in_err-waits.result c.from_r
 
 pub read_waits-requires : goal.read_waits-requires
 unfolding number_line number_of line
-read_waits-requires c = (omega arith, number_most "waits=" 0 wait_places c.read_objects.new.lines.rest.now c.in_ok-waits.ensures)
+read_waits-requires c = number_most "waits=" 0 wait_places c.read_objects.new.lines.rest.now c.in_ok-waits.ensures
 
 pub returns-in_err-tickets_rise : goal.returns-in_err-tickets_rise
 unfolding read_snapshot ◌>>=◌ number_line number_of line
