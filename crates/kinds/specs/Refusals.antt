@@ -1,5 +1,5 @@
 -- The numbers of the refusals, as the answers of model's Basics have them.
-use Rattle.std.specs.Prelude.{ℕ, Result, Ok, Err}
+use Rattle.std.specs.Prelude.{ℕ}
 use Rattle.kinds.specs.declared.refusal.Refusal.{Refusal}
 use Rattle.kinds.specs.declared.refusal.Refusal.TheVariants.{Invalid, NotOwner, Overflow, NoRoom, TicketsSpent, Corrupt, Busy, ListShort, NotASnapshot}
 
@@ -13,8 +13,3 @@ number_of Corrupt = 9
 number_of Busy = 10
 number_of ListShort = 12
 number_of NotASnapshot = 13
-
--- the answer alone: 0, or the refusal's
-abbrev pub answer_of : {A : Type 0} → Result A Refusal → ℕ
-answer_of (Ok x) = 0
-answer_of (Err r) = number_of r

@@ -1,13 +1,10 @@
 -- From cells to the meaning: what a call leaves by the definitions of `cells` is what a host sees of its outcome.
-use Prim.Native.Nat.{ℕ, ◌<◌, ◌≤◌}
+use Prim.Native.Nat.{ℕ}
 use mathlib.Core.Path.{◌≡◌, sym, ap, ◌∙◌}
-use mathlib.Core.Bool.{Bool, true, false, not, cond}
+use mathlib.Core.Bool.{Bool, true, false, not}
 use mathlib.Core.List.{List, [], ◌∷◌}
 use lib.ListN.{length}
-use lib.Dec.{ltb}
-use borrow.Author.Tests.{lt-ltb, le-ltb}
 use Rattle.model.specs.Calls.{Operation, Lent, lend, nothing_lent, asks}
-use Rattle.model.specs.Sizes.{wake_length}
 use Rattle.model.specs.Layout.{table_length}
 use Rattle.model.specs.Steps.{table_step, Seen, sees, seen}
 use Rattle.model.proofs.Logic.{not_true, not_false}
@@ -50,17 +47,3 @@ module _ (op : Operation) (t : List ℕ) {v : Bool} (w : Words t) (q : v ≡ val
 
   pub served : {r : Result} → not v ≡ false → r ≡ on_cells op t nothing_lent → seen (table_step t (asks op nothing_lent)) ≡ shown r
   served n e = means op t nothing_lent w (guarded_in t q nothing_lent n e)
-
--- the two tests of the calls that wake: 9, then 12
-abbrev pub tests : List ℕ → List ℕ → ℕ
-tests t wake = cond (valid_cells t) (cond (ltb (length wake) wake_length) 12 0) 9
-
-module _ (t wake : List ℕ) {v : Bool} (q : v ≡ valid_cells t) where
-  pub refused_corrupt : not v ≡ true → tests t wake ≡ 9
-  refused_corrupt y = rw (sym q, not_true v y)
-
-  pub refused_short : not v ≡ false → length wake < wake_length → tests t wake ≡ 12
-  refused_short n l = rw (found_valid t q n, lt-ltb (length wake) wake_length l)
-
-  pub refused_none : not v ≡ false → wake_length ≤ length wake → tests t wake ≡ 0
-  refused_none n l = rw (found_valid t q n, le-ltb (length wake) wake_length l)
