@@ -11,12 +11,12 @@ ghost use Rattle.model.specs.Restore.{restored, restore_tables};
 ghost use Rattle.cells.specs.Attempt.{some_servable};
 ghost use Rattle.ntsync_restore.specs.Judged.{JudgedAs};
 
-use ntsync_guard::CORRUPT;
+use kinds::Refusal;
+use tables::Cells;
 
-pub const NOT_A_SNAPSHOT: u32 = 13;
-
+// kept: the C interface's struct, an answer with an offset beside it
 #[repr(C)]
-#[derive(Clone, Copy)]
+#[derive(Clone, Copy, Debug, PartialEq, Eq)]
 pub struct Restored {
     pub answer: u32,
     pub offset: u64,
@@ -29,7 +29,7 @@ struct Refused {
 }
 
 // The lines were in order, what they show is valid, and no wait in it could be served.
-fn acceptable(in_order: bool, read: &[u64]) -> bool
+fn acceptable(in_order: bool, read: &Cells) -> bool
     ensures { result ≡ all_of (in_order ∷ valid_tables read.now
         ∷ not (some_servable read.now) ∷ []) }
 {
@@ -37,7 +37,7 @@ fn acceptable(in_order: bool, read: &[u64]) -> bool
 }
 
 // The text, read into tables of zeros, and every test of it.
-fn judge(text: &[u8], read: &mut [u64]) -> Result<(), Refused>
+fn judge(text: &[u8], read: &mut Cells) -> Result<(), Refused>
     requires { read.old ≡ replicate table_length 0 }
     ensures { JudgedAs (restored text.now) result read.new }
 {
@@ -57,11 +57,11 @@ pub fn restore(tables: &mut [u64], text: &[u8]) -> Restored
 {
     if tables.len() != tables::TABLE_LENGTH {
         return Restored {
-            answer: CORRUPT,
+            answer: u32::from(Refusal::Corrupt),
             offset: 0,
         };
     }
-    let mut read = [0; tables::TABLE_LENGTH];
+    let mut read: Cells = [0; tables::TABLE_LENGTH];
     match judge(text, &mut read) {
         Ok(()) => {
             tables.copy_from_slice(&read);
@@ -71,7 +71,7 @@ pub fn restore(tables: &mut [u64], text: &[u8]) -> Restored
             }
         }
         Err(refused) => Restored {
-            answer: NOT_A_SNAPSHOT,
+            answer: u32::from(Refusal::NotASnapshot),
             offset: refused.offset as u64,
         },
     }
