@@ -1,10 +1,10 @@
+use borrow.Author.Rules.{rules}
 use Rattle.model.specs.Calls.{cancel, nothing_lent}
 use Rattle.ntsync_guard.proofs.Laws.{means}
-use native.Mathlib.Omega.{arith}
 use Rattle.ntsync_changes.proofs.cancel.Goals as goal
 
 pub returns-in-Ok : goal.returns-in-Ok
-returns-in-Ok c = let a = c.args in means (cancel a.ticket) a.tables.now nothing_lent (λ i. omega (arith, c.slice_known-1.given i)) c.in-Ok.ensures
+returns-in-Ok c = let a = c.args in means (cancel a.ticket) a.tables.now nothing_lent (λ i. search rules) c.in-Ok.ensures
 
 pub returns-in-Err : goal.returns-in-Err
-returns-in-Err c = let a = c.args in rw c.from.ensures (means (cancel a.ticket) a.tables.now nothing_lent (λ i. omega (arith, c.slice_known-1.given i)) c.in-Err.ensures)
+returns-in-Err c = let a = c.args in rw c.from.ensures (means (cancel a.ticket) a.tables.now nothing_lent (λ i. search rules) c.in-Err.ensures)
