@@ -92,7 +92,8 @@ pub fn wait(
     time: u64,
 ) -> Result<Outcome, Refusal>
     ensures { waited_by result t.new
-        ≡ wait_on_cells terms.mode list.now terms.owner terms.clock pad terms.alert terms.timeout time t.old nothing_lent }
+        ≡ wait_on_cells terms.mode list.now terms.owner terms.clock pad terms.alert terms.timeout time
+        t.old nothing_lent }
 {
     let n = list.len();
     if tables::MAX_LISTED < n {
