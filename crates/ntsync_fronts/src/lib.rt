@@ -31,7 +31,11 @@ fn filled<'a, F: FnOnce(&mut [u64], &mut [u64]) -> Changed>(
     ensures place { result.ref_ptr ≡ wake.entry.ref_ptr }
 {
     let r = call(tables, wake);
-    *res = [u64::from(r.answer), u64::from(r.previous), u64::from(r.woken)];
+    *res = [
+        u64::from(r.answer),
+        u64::from(r.previous),
+        u64::from(r.woken),
+    ];
     front(wake, r.woken)
 }
 
@@ -46,7 +50,12 @@ pub fn post_woken<'a>(
         (asks (signal (post add) handle) (wake_lent wake.old)))
         ≡ hands res.new result.now tables.new) × (result.ref_ptr ≡ wake.entry.ref_ptr) }
 {
-    filled(tables, wake, res, |t, w| ntsync_signals::post(t, w, handle, add))
+    filled(
+        tables,
+        wake,
+        res,
+        |t, w| ntsync_signals::post(t, w, handle, add),
+    )
 }
 
 pub fn unlock_woken<'a>(
@@ -60,7 +69,12 @@ pub fn unlock_woken<'a>(
         (asks (signal (unlock owner) handle) (wake_lent wake.old)))
         ≡ hands res.new result.now tables.new) × (result.ref_ptr ≡ wake.entry.ref_ptr) }
 {
-    filled(tables, wake, res, |t, w| ntsync_signals::unlock(t, w, handle, owner))
+    filled(
+        tables,
+        wake,
+        res,
+        |t, w| ntsync_signals::unlock(t, w, handle, owner),
+    )
 }
 
 pub fn kill_owner_woken<'a>(
@@ -74,7 +88,12 @@ pub fn kill_owner_woken<'a>(
         (asks (signal (kill owner) handle) (wake_lent wake.old)))
         ≡ hands res.new result.now tables.new) × (result.ref_ptr ≡ wake.entry.ref_ptr) }
 {
-    filled(tables, wake, res, |t, w| ntsync_signals::kill_owner(t, w, handle, owner))
+    filled(
+        tables,
+        wake,
+        res,
+        |t, w| ntsync_signals::kill_owner(t, w, handle, owner),
+    )
 }
 
 pub fn set_woken<'a>(
@@ -100,7 +119,12 @@ pub fn pulse_woken<'a>(
         (asks (signal pulse_event handle) (wake_lent wake.old)))
         ≡ hands res.new result.now tables.new) × (result.ref_ptr ≡ wake.entry.ref_ptr) }
 {
-    filled(tables, wake, res, |t, w| ntsync_signals::pulse(t, w, handle))
+    filled(
+        tables,
+        wake,
+        res,
+        |t, w| ntsync_signals::pulse(t, w, handle),
+    )
 }
 
 pub fn expire_woken<'a>(
@@ -113,5 +137,10 @@ pub fn expire_woken<'a>(
     ensures { (handed (table_step tables.old (asks (expire clock time) (wake_lent wake.old)))
         ≡ hands res.new result.now tables.new) × (result.ref_ptr ≡ wake.entry.ref_ptr) }
 {
-    filled(tables, wake, res, |t, w| ntsync_signals::expire(t, w, clock, time))
+    filled(
+        tables,
+        wake,
+        res,
+        |t, w| ntsync_signals::expire(t, w, clock, time),
+    )
 }

@@ -12,8 +12,11 @@ pub loop-i-init : goal.loop-i-init
 loop-i-init g c = (tt, λ ok h. lowest_start c.args.t.now ok)
 
 pub loop-i-preserved : goal.loop-i-preserved
-loop-i-preserved g c = (c.better-best.ensures.bound, λ ok h.
-    subst (λ (n : ℕ). Found c.better-best.result n wait_places) (lowest_more c.args.t.now ok c.loop-i.i (h c.loop-i.i _ c.loop-i-test.true c.passes-here.ensures)) (c.better-best.ensures.lowest _ (c.loop-i.invariant.1 ok h)))
+loop-i-preserved g c = (
+  c.better-best.ensures.bound,
+  λ ok h.
+      subst (λ (n : ℕ). Found c.better-best.result n wait_places) (lowest_more c.args.t.now ok c.loop-i.i (h c.loop-i.i _ c.loop-i-test.true c.passes-here.ensures)) (c.better-best.ensures.lowest _ (c.loop-i.invariant.1 ok h)),
+)
 
 pub returns : goal.returns
 unfolding lowest

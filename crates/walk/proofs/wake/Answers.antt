@@ -33,23 +33,29 @@ listed-x-requires c = let s = c.waits in let p : ℕ = c.in-Some.p in let e = c.
 
 pub waits-preserved-then-w-eq0 : goal.waits-preserved-then-w-eq0
 waits-preserved-then-w-eq0 c = let s = c.waits in let p : ℕ = c.in-Some.p in let e = c.in-Some.ensures in let w = c.header_at-w.ensures in
-    let v = settle_any s.t s.wake p s.k w.ticket c.any_at-a.ensures c.settle-k.ensures in
-    (omega (arith, s.invariant.0, settle_count (any_at s.t p) p s.k s.t s.wake v), c.settle-k.array_long,
-    walk_any c.args.h s.turn s.last s.k s.t s.wake s.invariant.2 c.waits-test.true e.0 e.1 w.ticket c.names_at-named.ensures (ap not c.if-not-named.false) w.mode c.if-w-eq0.true v)
+    let v = settle_any s.t s.wake p s.k w.ticket c.any_at-a.ensures c.settle-k.ensures in (
+      omega (arith, s.invariant.0, settle_count (any_at s.t p) p s.k s.t s.wake v),
+      c.settle-k.array_long,
+      walk_any c.args.h s.turn s.last s.k s.t s.wake s.invariant.2 c.waits-test.true e.0 e.1 w.ticket c.names_at-named.ensures (ap not c.if-not-named.false) w.mode c.if-w-eq0.true v,
+    )
 
 pub waits-preserved-then-not-here : goal.waits-preserved-then-not-here
 waits-preserved-then-not-here c = let s = c.waits in let p : ℕ = c.in-Some.p in let e = c.in-Some.ensures in let w = c.header_at-w.ensures in let u = c.loop-i in
-    let v = settle_alert u.t u.wake p u.k (w.ticket ∙ ap (λ (x : List ℕ). ticket_at x p) (sym u.invariant.2)) c.alert_of-a.ensures c.settle-k-then-not-here.ensures in
-    (omega (arith, s.invariant.0, settle_count (alert_of u.t p) p u.k u.t u.wake v, u.invariant.4), c.settle-k-then-not-here.array_long,
-    walk_alert c.args.h s.turn s.last s.k s.t s.wake s.invariant.2 c.waits-test.true e.0 e.1 w.ticket c.names_at-named.ensures (ap not c.if-not-named.false) w.mode c.if-w-eq0.false u.invariant.2 u.invariant.3 u.invariant.4
-    (look_fails s.t p u.i u.invariant.2 w.owner c.listed-x.ensures c.signaled-here.ensures (omega (arith, list_length s.t s.invariant.1 p e.1, c.count_at-n.ensures, c.loop-i-test.true)) (ap not c.if-not-here.true)) v)
+    let v = settle_alert u.t u.wake p u.k (w.ticket ∙ ap (λ (x : List ℕ). ticket_at x p) (sym u.invariant.2)) c.alert_of-a.ensures c.settle-k-then-not-here.ensures in (
+      omega (arith, s.invariant.0, settle_count (alert_of u.t p) p u.k u.t u.wake v, u.invariant.4),
+      c.settle-k-then-not-here.array_long,
+      walk_alert c.args.h s.turn s.last s.k s.t s.wake s.invariant.2 c.waits-test.true e.0 e.1 w.ticket c.names_at-named.ensures (ap not c.if-not-named.false) w.mode c.if-w-eq0.false u.invariant.2 u.invariant.3 u.invariant.4
+          (look_fails s.t p u.i u.invariant.2 w.owner c.listed-x.ensures c.signaled-here.ensures (omega (arith, list_length s.t s.invariant.1 p e.1, c.count_at-n.ensures, c.loop-i-test.true)) (ap not c.if-not-here.true)) v,
+    )
 
 pub waits-preserved : goal.waits-preserved
 waits-preserved c = let s = c.waits in let p : ℕ = c.in-Some.p in let e = c.in-Some.ensures in let w = c.header_at-w.ensures in let u = c.loop-i in
-    let v = settle_all u.t u.wake p u.k (w.ticket ∙ ap (λ (x : List ℕ). ticket_at x p) (sym u.invariant.2)) c.all_at-a.ensures c.settle-k-in-waits.ensures in
-    (omega (arith, s.invariant.0, settle_count (all_at u.t p) p u.k u.t u.wake v, u.invariant.4), c.settle-k-in-waits.array_long,
-    walk_all c.args.h s.turn s.last s.k s.t s.wake s.invariant.2 c.waits-test.true e.0 e.1 w.ticket c.names_at-named.ensures (ap not c.if-not-named.false) w.mode c.if-w-eq0.false u.invariant.2 u.invariant.3 u.invariant.4
-    (look_ends s.t p u.i (omega (arith, list_length s.t s.invariant.1 p e.1, c.count_at-n.ensures, c.loop-i-test.false)) u.invariant.0) v)
+    let v = settle_all u.t u.wake p u.k (w.ticket ∙ ap (λ (x : List ℕ). ticket_at x p) (sym u.invariant.2)) c.all_at-a.ensures c.settle-k-in-waits.ensures in (
+      omega (arith, s.invariant.0, settle_count (all_at u.t p) p u.k u.t u.wake v, u.invariant.4),
+      c.settle-k-in-waits.array_long,
+      walk_all c.args.h s.turn s.last s.k s.t s.wake s.invariant.2 c.waits-test.true e.0 e.1 w.ticket c.names_at-named.ensures (ap not c.if-not-named.false) w.mode c.if-w-eq0.false u.invariant.2 u.invariant.3 u.invariant.4
+          (look_ends s.t p u.i (omega (arith, list_length s.t s.invariant.1 p e.1, c.count_at-n.ensures, c.loop-i-test.false)) u.invariant.0) v,
+    )
 
 pub returns : goal.returns
 returns c = let s = c.waits in (walk_end c.args.h s.turn s.last s.k s.t s.wake s.invariant.2 c.waits-test.false, omega (arith, s.invariant.0))
