@@ -10,7 +10,10 @@ ghost use Rattle.cells.specs.Validity.{valid_fields, occupied_at, event_at, occu
 ghost use Rattle.kinds.specs.Values.{cells_of};
 
 use kinds::{Event, Kind, Mutex, Object, Semaphore};
+pub use sound::Sound;
 use tables::Cells;
+
+mod sound;
 
 // Flags for the numbers below it, among them every handle.
 const MARKS: usize = 2 * tables::OBJECT_PLACES;
