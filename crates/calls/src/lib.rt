@@ -1,4 +1,4 @@
-// The calls that wake nobody, each behind its refusals, in their order. Reading asks for valid tables: their objects' numbers
+// The calls that wake nobody, each behind its refusals, in their order. Reading takes valid tables: their objects' numbers
 // have 32 bits.
 #![tactic(auto)]
 
@@ -14,6 +14,7 @@ ghost use Rattle.calls.specs.Values.{left_by, done, number, numbers, mutex_numbe
 
 use kinds::{Kind, Object, Refusal};
 use tables::Cells;
+use validity::Sound;
 
 // The answer of a wait that was cancelled.
 const INTERRUPTED: u32 = 6;
@@ -62,11 +63,10 @@ pub fn close(t: &mut Cells, h: u64) -> Result<(), Refusal>
 }
 
 // The count and the attribute of an object of this kind.
-fn read_pair(t: &Cells, h: u64, kind: Kind) -> Result<(u32, u32), Refusal>
-    requires { valid_cells t.now ≡ true }
-    ensures { left_by numbers result t.now ≡ read_pair (cell_of kind) h t.now nothing_lent }
+fn read_pair(t: Sound, h: u64, kind: Kind) -> Result<(u32, u32), Refusal>
+    ensures { left_by numbers result t.entry.cells.now ≡ read_pair (cell_of kind) h t.entry.cells.now nothing_lent }
 {
-    let o = tables::named(t, h);
+    let o = tables::named(t.cells, h);
     if !o.is(kind) {
         return Err(Refusal::Invalid);
     }
@@ -74,28 +74,25 @@ fn read_pair(t: &Cells, h: u64, kind: Kind) -> Result<(u32, u32), Refusal>
 }
 
 #[tactic(auto, unfolding(cells::specs::Calls::read_cells))]
-pub fn read_semaphore(t: &Cells, h: u64) -> Result<(u32, u32), Refusal>
-    requires { valid_cells t.now ≡ true }
-    ensures { left_by numbers result t.now ≡ read_cells a_semaphore h t.now nothing_lent }
+pub fn read_semaphore(t: Sound, h: u64) -> Result<(u32, u32), Refusal>
+    ensures { left_by numbers result t.entry.cells.now ≡ read_cells a_semaphore h t.entry.cells.now nothing_lent }
 {
     read_pair(t, h, Kind::Semaphore)
 }
 
 #[tactic(auto, unfolding(cells::specs::Calls::read_cells))]
-pub fn read_event(t: &Cells, h: u64) -> Result<(u32, u32), Refusal>
-    requires { valid_cells t.now ≡ true }
-    ensures { left_by numbers result t.now ≡ read_cells an_event h t.now nothing_lent }
+pub fn read_event(t: Sound, h: u64) -> Result<(u32, u32), Refusal>
+    ensures { left_by numbers result t.entry.cells.now ≡ read_cells an_event h t.entry.cells.now nothing_lent }
 {
     read_pair(t, h, Kind::Event)
 }
 
 // Owner and count; nothing of an abandoned mutex, which its answer tells.
 #[tactic(auto, unfolding(cells::specs::Calls::read_cells))]
-pub fn read_mutex(t: &Cells, h: u64) -> Result<Option<(u32, u32)>, Refusal>
-    requires { valid_cells t.now ≡ true }
-    ensures { left_by mutex_numbers result t.now ≡ read_cells a_mutex h t.now nothing_lent }
+pub fn read_mutex(t: Sound, h: u64) -> Result<Option<(u32, u32)>, Refusal>
+    ensures { left_by mutex_numbers result t.entry.cells.now ≡ read_cells a_mutex h t.entry.cells.now nothing_lent }
 {
-    let o = tables::named(t, h);
+    let o = tables::named(t.cells, h);
     if !o.is(Kind::Mutex) {
         return Err(Refusal::Invalid);
     }

@@ -1,10 +1,10 @@
 // What the public calls share: the test of the tables, and how long a wake list is.
 #![tactic(auto)]
 
-ghost use Rattle.ntsync_guard.specs.Values.{Sound};
+ghost use Rattle.ntsync_guard.specs.Values.{FoundSound};
 
 use kinds::Refusal;
-use tables::Cells;
+use validity::Sound;
 
 pub const CORRUPT: u32 = 9;
 
@@ -12,14 +12,14 @@ pub const CORRUPT: u32 = 9;
 pub const WAKE_LENGTH: usize = 3 * tables::WAIT_PLACES;
 
 // The lent tables, where they are valid.
-pub fn sound(tables: &[u64]) -> Result<&Cells, Refusal>
-    ensures { Sound tables.now result }
+pub fn sound(tables: &[u64]) -> Result<Sound, Refusal>
+    ensures { FoundSound tables.now result }
 {
-    let Some(t) = tables.as_array() else {
+    let Some(cells) = tables.as_array() else {
         return Err(Refusal::Corrupt);
     };
-    if !validity::valid(t) {
+    if !validity::valid(cells) {
         return Err(Refusal::Corrupt);
     }
-    Ok(t)
+    Ok(Sound { cells })
 }

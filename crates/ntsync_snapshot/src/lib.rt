@@ -39,11 +39,11 @@ fn write(tables: &[u64], buffer: &mut [u8]) -> Result<u32, Refusal>
     ensures { left_by result tables.now buffer.new ≡ guarded (buffer_lent buffer.old) tables.now
         (snapshot_cells tables.now (buffer_lent buffer.old)) }
 {
-    let t = sound(tables)?;
+    let found = sound(tables)?;
     if buffer.len() < SNAPSHOT_BUFFER {
         return Err(Refusal::ListShort);
     }
-    Ok(snapshot::write(buffer, t) as u32)
+    Ok(snapshot::write(buffer, found.cells) as u32)
 }
 
 pub fn snapshot(tables: &[u64], buffer: &mut [u8]) -> Written

@@ -10,7 +10,10 @@ ghost use Rattle.cells.specs.Validity.{valid_fields, occupied_at, event_at, occu
 ghost use Rattle.kinds.specs.Values.{cells_of};
 
 use kinds::{Event, Kind, Mutex, Object, Semaphore};
+pub use sound::Sound;
 use tables::Cells;
+
+mod sound;
 
 // Flags for the numbers below it, among them every handle.
 const MARKS: usize = 2 * tables::OBJECT_PLACES;
@@ -30,7 +33,6 @@ fn valid_object(o: Object) -> bool
     }
 }
 
-#[tactic(auto, unfolding(cells::specs::Validity::valid_fields, model::specs::Basics::all_of))]
 fn valid_objects(t: &Cells) -> bool
     ensures { result ≡ all_below (λ p. valid_fields (fields_at t.now p)) object_places }
 {
@@ -46,15 +48,13 @@ fn valid_objects(t: &Cells) -> bool
 pub fn occupied(t: &Cells, h: u64) -> bool
     ensures { result ≡ occupied_at t.now h }
 {
-    let o = tables::named(t, h);
-    0 < o.kind
+    0 < tables::named(t, h).kind
 }
 
 pub fn is_event(t: &Cells, h: u64) -> bool
     ensures { result ≡ event_at t.now h }
 {
-    let o = tables::named(t, h);
-    o.is(Kind::Event)
+    tables::named(t, h).is(Kind::Event)
 }
 
 fn occupied_list(t: &Cells, list: &[u64]) -> bool
@@ -76,8 +76,7 @@ fn occupied_once(t: &Cells, mode: u64, list: &[u64], alert: u64) -> bool
     let first = (alert % (MARKS as u64)) as usize;
     seen[first] = 1;
     for &h in list {
-        let here = occupied(t, h);
-        if !here {
+        if !occupied(t, h) {
             return false;
         }
         let flag = (h % (MARKS as u64)) as usize;
