@@ -21,8 +21,7 @@ pub fn snapshot(tables: &[u64], buffer: &mut [u8]) -> Written
     ensures { seen (table_step tables.now (asks snapshot (buffer_lent buffer.old)))
         ≡ sees (result.answer ∷ result.length ∷ 0 ∷ 0 ∷ []) (buffer_lent buffer.new) tables.now }
 {
-    let corrupt = !validity::valid(tables);
-    if corrupt {
+    if !validity::valid(tables) {
         return Written {
             answer: CORRUPT,
             length: 0,

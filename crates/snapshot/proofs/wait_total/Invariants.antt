@@ -1,13 +1,7 @@
-use Rattle.snapshot.proofs.Laws.{counted}
-use lib.Dec.{ltb}
-use Rattle.model.specs.Sizes.{wait_places}
-use mathlib.Core.Path.{◌≡◌}
-use Prim.Native.Nat.{◌-◌, ◌≤◌}
+use Rattle.std.proofs.Common.{◌≡◌, ◌≤◌, ltb}
 use Rattle.cells.specs.Waits.{ticket_at}
+use Rattle.snapshot.proofs.Laws.{counted}
 use Rattle.snapshot.proofs.wait_total.Given as goal
 
 abbrev pub invariant-loop-p : goal.invariant-loop-p
-invariant-loop-p l = (l.p ≤ wait_places) × (l.total ≤ l.p) × (l.total ≡ counted (λ i. ltb 0 (ticket_at l.t i)) l.p)
-
-abbrev pub decreases-loop-p : goal.decreases-loop-p
-decreases-loop-p l = wait_places - l.p
+invariant-loop-p l = (l.total ≤ l.p) × (l.total ≡ counted (λ i. ltb 0 (ticket_at l.t i)) l.p)
