@@ -24,6 +24,6 @@ abbrev pub mutex_numbers : Option (ℕ × ℕ) → List ℕ → Left
 mutex_numbers (Some x) t = numbers x t
 mutex_numbers None t = answered 4 0 0 t nothing_lent
 
--- the answer alone
-abbrev pub answer : ℕ → List ℕ → Left
-answer a t = answered a 0 0 t nothing_lent
+-- a wait that was cancelled: its answer alone tells
+abbrev pub cancelled : {A : Type 0} → A → List ℕ → Left
+cancelled x t = answered 6 0 0 t nothing_lent

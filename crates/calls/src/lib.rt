@@ -10,14 +10,11 @@ ghost use Rattle.cells.specs.Validity.{valid_cells};
 ghost use Rattle.cells.specs.Calls.{create_cells, busy_at, close_cells, read_pair, read_cells, reset_cells, cancel_cells};
 ghost use Rattle.kinds.specs.Kinds.{cell_of};
 ghost use Rattle.kinds.specs.Values.{cells_of};
-ghost use Rattle.calls.specs.Values.{left_by, done, number, numbers, mutex_numbers, answer};
+ghost use Rattle.calls.specs.Values.{left_by, done, number, numbers, mutex_numbers, cancelled};
 
 use kinds::{Kind, Object, Refusal};
 use tables::Cells;
 use validity::Sound;
-
-// The answer of a wait that was cancelled.
-const INTERRUPTED: u32 = 6;
 
 // A new object at the lowest empty place; its handle.
 #[tactic(auto, unfolding(cells::specs::Calls::create_cells))]
@@ -114,15 +111,15 @@ pub fn reset(t: &mut Cells, h: u64) -> Result<u32, Refusal>
     Ok(o.count as u32)
 }
 
-// The answer that its waiter gets.
+// The wait leaves the queue.
 #[tactic(auto, unfolding(cells::specs::Calls::cancel_cells))]
-pub fn cancel(t: &mut Cells, ticket: u64) -> Result<u32, Refusal>
-    ensures { left_by answer result t.new ≡ cancel_cells ticket t.old nothing_lent }
+pub fn cancel(t: &mut Cells, ticket: u64) -> Result<(), Refusal>
+    ensures { left_by cancelled result t.new ≡ cancel_cells ticket t.old nothing_lent }
 {
     if ticket == 0 {
         return Err(Refusal::Invalid);
     }
     let p = tables::ticket_place(t, ticket).ok_or(Refusal::Invalid)?;
     tables::clear_wait(t, p);
-    Ok(INTERRUPTED)
+    Ok(())
 }

@@ -12,23 +12,42 @@ use lib.Seq.{sets, sets-eq, length-sets, set_comm}
 use Rattle.model.specs.Snapshot.{digits_up_to}
 use Rattle.model.proofs.Digits.{digits_one, digits_more}
 use borrow.Rule.Slice.PartMut.{put_mid}
-use Rattle.decimal.specs.Text.{Room, Wrote}
+use Rattle.decimal.specs.declared.Writer.{Writer}
+use Rattle.decimal.specs.Text.{Room}
+use Rattle.decimal.specs.Writing.{HasRoom, Appended}
+use lib.Seq.{take-append_seam}
 
 sets_then : (buf x y : List ℕ) (at : ℕ) → sets (sets buf at x) (at + length x) y ≡ sets buf at (x ++ y)
 sets_then buf [] y at = rw (add-zero at)
 sets_then buf (b ∷ x) y at = let e : at + suc (length x) ≡ suc at + length x = omega arith in rw e (sets_then (set buf at b) x y (suc at))
 
--- what two calls wrote is the two texts, one after the other
-module _ (buf : List ℕ) (at : ℕ) (x y : List ℕ) where
-  pub first_room : Room buf at (x ++ y) → Room buf at x
-  first_room h = let e = length-append x y in omega arith
+pub appended_none : (w : Writer) → Appended w w []
+appended_none w = record { same = refl; wrote = (refl, sym (add-zero w.at)) }
 
-  module _ {r : ℕ} {next : List ℕ} (w : Wrote buf at x r next) where
-    pub then_room : Room buf at (x ++ y) → Room next r y
-    then_room h = let e = length-append x y in let l : length next ≡ length buf = ap length w.0 ∙ length-sets buf at x in let p : r ≡ at + length x = w.1 in omega arith
+module _ {w v u : Writer} (x y : List ℕ) (a : Appended w v x) where
+  pub appended_then : Appended v u y → Appended w u (x ++ y)
+  appended_then b = record {
+    same = b.same ∙ a.same;
+    wrote = (b.wrote.0 ∙ rw (a.wrote.0, a.wrote.1) (sets_then w.buf.now x y w.at), b.wrote.1 ∙ (let e = length-append x y in let p : v.at ≡ w.at + length x = a.wrote.1 in omega arith));
+  }
 
-    pub then_wrote : {last : ℕ} {end : List ℕ} → Wrote next r y last end → Wrote buf at (x ++ y) last end
-    then_wrote v = (v.0 ∙ rw (w.0, w.1) (sets_then buf x y at), v.1 ∙ (let e = length-append x y in let p : r ≡ at + length x = w.1 in omega arith))
+-- WHAT IS LEFT TO WRITE of a whole text: there is room for it, and with it the whole is written
+pub record Due (w₀ : Writer) (whole : List ℕ) (w : Writer) (left : List ℕ) : Type 0 where
+  pub room : HasRoom w left
+  pub done : {end : Writer} → Appended w end left → Appended w₀ end whole
+
+pub due_all : {w : Writer} {whole : List ℕ} → HasRoom w whole → Due w whole w whole
+due_all h = record { room = h; done = λ a. a }
+
+module _ {w₀ : Writer} {whole : List ℕ} {w : Writer} (x y : List ℕ) (d : Due w₀ whole w (x ++ y)) where
+  pub due_first : HasRoom w x
+  due_first = let e = length-append x y in let h = d.room.fits in record { fits = omega arith }
+
+  pub due_then : {v : Writer} → Appended w v x → Due w₀ whole v y
+  due_then {v} a = record {
+    room = let e = length-append x y in let h = d.room.fits in let l : length v.buf.now ≡ length w.buf.now = ap length a.wrote.0 ∙ length-sets w.buf.now w.at x in let p : v.at ≡ w.at + length x = a.wrote.1 in record { fits = omega arith };
+    done = λ b. d.done (appended_then x y a b);
+  }
 
 -- a text copied over a part of the buffer
 pub put_there : (buf text part : List ℕ) (at n : ℕ) → Room buf at text → n ≡ length text → part ≡ text → put_mid at n buf part ≡ sets buf at text
@@ -64,12 +83,10 @@ module _ (buf : List ℕ) (at place n : ℕ) (p : place + 1 ≡ at + length (dig
   digit_one h = let c = count_one n h in let e : place ≡ at = omega arith in rw (e, digits_one n h)
 
 -- what was written at the front of a buffer is its front
-take_front : (x r : List ℕ) → take (length x) (x ++ r) ≡ x
-take_front [] r = refl
-take_front (b ∷ x) r = ap (λ (l : List ℕ). b ∷ l) (take_front x r)
+module _ {w v : Writer} {x : List ℕ} (front : w.at ≡ 0) (room : HasRoom w x) (a : Appended w v x) where
+  pub front_is : take v.at v.buf.now ≡ x
+  front_is = let f = room.fits in let p : v.at ≡ length x = (let q : v.at ≡ w.at + length x = a.wrote.1 in omega arith) in
+      rw (p, a.wrote.0, front, sets-eq x w.buf.now 0 (let r : 0 + length x ≤ length w.buf.now = omega arith in r)) (take-append_seam x (drop (0 + length x) w.buf.now))
 
-pub front_is : (buf x : List ℕ) (r : ℕ) (end : List ℕ) → Room buf 0 x → Wrote buf 0 x r end → take r end ≡ x
-front_is buf x r end l w = let p : r ≡ length x = (let q : r ≡ 0 + length x = w.1 in omega arith) in rw (p, w.0, sets-eq x buf 0 l) (take_front x (drop (0 + length x) buf))
-
-pub front_room : (buf x : List ℕ) (r : ℕ) (end : List ℕ) → Room buf 0 x → Wrote buf 0 x r end → r ≤ length end
-front_room buf x r end l w = let p : r ≡ 0 + length x = w.1 in let q : length end ≡ length buf = ap length w.0 ∙ length-sets buf 0 x in omega arith
+  pub front_within : v.at ≤ length v.buf.now
+  front_within = let f = room.fits in let p : v.at ≡ w.at + length x = a.wrote.1 in let q : length v.buf.now ≡ length w.buf.now = ap length a.wrote.0 ∙ length-sets w.buf.now w.at x in omega arith

@@ -5,11 +5,14 @@ ghost use Rattle.std.specs.Prelude.{◌≡◌, [], ◌∷◌};
 ghost use Rattle.model.specs.Calls.{close, reset_event, cancel, nothing_lent, asks};
 ghost use Rattle.model.specs.Steps.{table_step, seen, sees};
 ghost use Rattle.cells.specs.Calls.{guarded, close_cells, reset_cells, cancel_cells};
-ghost use Rattle.calls.specs.Values.{left_by, done, number, answer};
+ghost use Rattle.calls.specs.Values.{left_by, done, number, cancelled};
 
 use kinds::Refusal;
 use ntsync_guard::sound;
 use signals::{Changed, Woke};
+
+// The answer of a wait that was cancelled.
+const INTERRUPTED: u32 = 6;
 
 fn try_close(tables: &mut [u64], handle: u32) -> Result<(), Refusal>
     ensures { left_by done result tables.new
@@ -53,8 +56,8 @@ pub fn reset(tables: &mut [u64], handle: u32) -> Changed
     }
 }
 
-fn try_cancel(tables: &mut [u64], ticket: u64) -> Result<u32, Refusal>
-    ensures { left_by answer result tables.new
+fn try_cancel(tables: &mut [u64], ticket: u64) -> Result<(), Refusal>
+    ensures { left_by cancelled result tables.new
         ≡ guarded nothing_lent tables.old (cancel_cells ticket tables.old nothing_lent) }
 {
     let Some(t) = tables.as_mut_array() else {
@@ -69,7 +72,7 @@ pub fn cancel(tables: &mut [u64], ticket: u64) -> u32
         ≡ sees (result ∷ 0 ∷ 0 ∷ 0 ∷ []) nothing_lent tables.new }
 {
     match try_cancel(tables, ticket) {
-        Ok(answer) => answer,
+        Ok(()) => INTERRUPTED,
         Err(r) => u32::from(r),
     }
 }

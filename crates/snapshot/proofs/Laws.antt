@@ -1,29 +1,27 @@
 -- What the writer's definitions come to on each way through the code.
 use Prim.Native.Nat.{ℕ, zero, suc, ◌+◌, ◌-◌, ◌%◌, ◌≤◌, ◌<◌}
-use mathlib.Core.Path.{◌≡◌, refl, sym, ap, ◌∙◌}
+use mathlib.Core.Path.{◌≡◌, sym, ap, ◌∙◌}
 use mathlib.Core.Bool.{Bool, true, false}
 use mathlib.Core.List.{List, [], ◌++◌}
 use mathlib.Core.Logic.{⊎_elim}
 use native.Mathlib.Omega.{arith}
-use native.Mathlib.Nat.{add-zero, le_refl, eq-or-lt_of_le, le_of_suc-le-suc}
+use native.Mathlib.Nat.{le_refl, eq-or-lt_of_le, le_of_suc-le-suc}
 use native.Mathlib.Numerals.{add-one}
 use borrow.Author.Tests.{ne_eqb, lt-ltb, le-ltb}
 use lib.ListN.{length, take, length-append}
+use Rattle.std.specs.Int.{from_bool}
 use Rattle.model.specs.Snapshot.{line, byte_sum}
 use Rattle.cells.specs.Fold.{fold_below}
 use Rattle.cells.proofs.Fold.{fold_none, fold_more}
 use Rattle.model.specs.Basics.{bit}
-use Rattle.std.specs.Int.{from_bool}
 use Rattle.cells.specs.Objects.{Fields}
 use Rattle.cells.specs.Snapshot.{semaphore_text, mutex_text, event_text, fields_text, objects_text_below, object_total, wait_total, wait_lines, wait_text_at, waits_text_from, body_of, snapshot_of}
 use Rattle.cells.specs.Waits.{next_ticket, ticket_at, mode_at, owner_at, clock_at, timeout_at, alert_at, list_of, next_wait}
 use Rattle.model.specs.Sizes.{object_places, wait_places, word32}
-use Rattle.decimal.specs.Text.{Room, Wrote}
-use Rattle.decimal.proofs.Laws.{first_room, then_room, then_wrote, front_is, front_room}
-
--- nothing written
-pub wrote_none : (buf : List ℕ) (at : ℕ) → Wrote buf at [] at buf
-wrote_none buf at = (refl, sym (add-zero at))
+use Rattle.decimal.specs.declared.Writer.{Writer}
+use Rattle.decimal.specs.Text.{Room}
+use Rattle.decimal.specs.Writing.{HasRoom, Appended}
+use Rattle.decimal.proofs.Laws.{Due, due_all, due_first, due_then, appended_none, appended_then, front_is, front_within}
 
 -- texts end to end, by a counting loop
 abbrev pub text_below : (ℕ → List ℕ) → ℕ → List ℕ
@@ -34,48 +32,19 @@ unfolding fold_below
 grows f i zero h = let e : i ≡ 0 = omega arith in rw e (le_refl (length (text_below f 0)))
 grows f i (suc n) h = ⊎_elim (λ e. rw e (le_refl (length (text_below f (suc n))))) (λ l. let g = grows f i n (le_of_suc-le-suc l) in let a = length-append (text_below f n) (f n) in omega arith) (eq-or-lt_of_le h)
 
-module _ (f : ℕ → List ℕ) (buf : List ℕ) (at : ℕ) where
-  pub text_start : Wrote buf at (text_below f 0) at buf
+module _ (f : ℕ → List ℕ) {w : Writer} where
+  pub text_start : Appended w w (text_below f 0)
   unfolding fold_below
-  text_start = wrote_none buf at
+  text_start = appended_none w
 
-  module _ (i : ℕ) {pos : ℕ} {next : List ℕ} (w : Wrote buf at (text_below f i) pos next) where
-    pub text_room : (n : ℕ) → i < n → Room buf at (text_below f n) → Room next pos (f i)
+  module _ (i : ℕ) {v : Writer} (a : Appended w v (text_below f i)) where
+    pub text_room : (n : ℕ) → i < n → HasRoom w (text_below f n) → HasRoom v (f i)
     unfolding fold_below
-    text_room n l h = let g = grows f (suc i) n l in then_room buf at (text_below f i) (f i) w (let r : at + length (text_below f (suc i)) ≤ length buf = omega arith in r)
+    text_room n l h = let g = grows f (suc i) n l in let r = h.fits in (due_then (text_below f i) (f i) (due_all (record { fits = omega arith })) a).room
 
-    pub text_more : {r : ℕ} {end : List ℕ} → Wrote next pos (f i) r end → Wrote buf at (text_below f (i + 1)) r end
+    pub text_more : {u : Writer} → Appended v u (f i) → Appended w u (text_below f (i + 1))
     unfolding fold_below
-    text_more v = rw add-one (then_wrote buf at (text_below f i) (f i) w v)
-
-    pub text_end : (n : ℕ) → i ≡ n → Wrote buf at (text_below f n) pos next
-    text_end n e = rw e at w
-
--- four texts end to end: the room that each call asks for, and what the last one leaves
-module _ (buf : List ℕ) (at : ℕ) (x₀ x₁ x₂ x₃ : List ℕ) (room : Room buf at (x₀ ++ (x₁ ++ (x₂ ++ x₃)))) where
-  pub room_first : Room buf at x₀
-  room_first = first_room buf at x₀ (x₁ ++ (x₂ ++ x₃)) room
-
-  module _ {r₀ : ℕ} {b₀ : List ℕ} (w₀ : Wrote buf at x₀ r₀ b₀) where
-    three_left : Room b₀ r₀ (x₁ ++ (x₂ ++ x₃))
-    three_left = then_room buf at x₀ (x₁ ++ (x₂ ++ x₃)) w₀ room
-
-    pub room_second : Room b₀ r₀ x₁
-    room_second = first_room b₀ r₀ x₁ (x₂ ++ x₃) three_left
-
-    module _ {r₁ : ℕ} {b₁ : List ℕ} (w₁ : Wrote b₀ r₀ x₁ r₁ b₁) where
-      two_left : Room b₁ r₁ (x₂ ++ x₃)
-      two_left = then_room b₀ r₀ x₁ (x₂ ++ x₃) w₁ three_left
-
-      pub room_third : Room b₁ r₁ x₂
-      room_third = first_room b₁ r₁ x₂ x₃ two_left
-
-      module _ {r₂ : ℕ} {b₂ : List ℕ} (w₂ : Wrote b₁ r₁ x₂ r₂ b₂) where
-        pub room_fourth : Room b₂ r₂ x₃
-        room_fourth = then_room b₁ r₁ x₂ x₃ w₂ two_left
-
-        pub wrote_four : {r : ℕ} {end : List ℕ} → Wrote b₂ r₂ x₃ r end → Wrote buf at (x₀ ++ (x₁ ++ (x₂ ++ x₃))) r end
-        wrote_four w₃ = then_wrote buf at x₀ (x₁ ++ (x₂ ++ x₃)) w₀ (then_wrote b₀ r₀ x₁ (x₂ ++ x₃) w₁ (then_wrote b₁ r₁ x₂ x₃ w₂ w₃))
+    text_more b = rw add-one (appended_then (text_below f i) (f i) a b)
 
 -- an object by its kind
 module _ (h : ℕ) (x : Fields) where
@@ -96,22 +65,16 @@ module _ (h : ℕ) (x : Fields) where
   text_empty a b c = rw (ne_eqb x.kind 1 a, ne_eqb x.kind 2 b, ne_eqb x.kind 3 c)
 
 -- counting
-pub from_bit : (b : Bool) → from_bool b ≡ bit b
-from_bit true = refl
-from_bit false = refl
-
-bit_low : (b : Bool) → bit b ≤ 1
-bit_low true = omega arith
-bit_low false = omega arith
-
-pub one_low : {x : ℕ} (b : Bool) → x ≡ bit b → x ≤ 1
-one_low b e = rw e (bit_low b)
+pub one_low : {x : ℕ} (b : Bool) → x ≡ from_bool b → x ≤ 1
+one_low true e = omega arith
+one_low false e = omega arith
 
 abbrev pub counted : (ℕ → Bool) → ℕ → ℕ
 counted f n = fold_below (λ (k : ℕ) i. k + bit (f i)) 0 n
 
-pub counted_more : (f : ℕ → Bool) (i : ℕ) {total x : ℕ} {b : Bool} → total ≡ counted f i → b ≡ f i → x ≡ bit b → total + x ≡ counted f (i + 1)
-counted_more f i e q y = rw (y, q, e) (fold_more (λ (k : ℕ) j. k + bit (f j)) 0 i)
+pub counted_more : (f : ℕ → Bool) (i : ℕ) {total x : ℕ} (b : Bool) → total ≡ counted f i → b ≡ f i → x ≡ from_bool b → total + x ≡ counted f (i + 1)
+counted_more f i true e q y = rw (y, e) (ap (λ (b : Bool). counted f i + bit b) q ∙ fold_more (λ (k : ℕ) j. k + bit (f j)) 0 i)
+counted_more f i false e q y = rw (y, e) (ap (λ (b : Bool). counted f i + bit b) q ∙ fold_more (λ (k : ℕ) j. k + bit (f j)) 0 i)
 
 pub counted_none : (f : ℕ → Bool) → 0 ≡ counted f 0
 counted_none f = fold_none (λ (k : ℕ) j. k + bit (f j)) 0
@@ -143,24 +106,27 @@ pub snapshot_lines : (t : List ℕ) {next objects waits : ℕ} → next ≡ next
 unfolding body_of
 snapshot_lines t a b c = rw (a, b, c)
 
+-- a writer at the front of a buffer
+pub opened : {w : Writer} {buf text : List ℕ} → w.buf.now ≡ buf → w.at ≡ 0 → Room buf 0 text → HasRoom w text
+opened b f h = record { fits = rw (b, f) h }
+
 -- the sum of what was written, then its line
-module _ (buf t : List ℕ) (r : ℕ) (next : List ℕ) (room : Room buf 0 (snapshot_of t)) where
-  pub body_room : Room buf 0 (body_of t)
+module _ (t : List ℕ) {w : Writer} (front : w.at ≡ 0) (room : HasRoom w (snapshot_of t)) where
+  summed : HasRoom w (body_of t ++ line "sum=" (byte_sum (body_of t) % word32))
   unfolding snapshot_of
-  body_room = first_room buf 0 (body_of t) (line "sum=" (byte_sum (body_of t) % word32)) room
+  summed = room
 
-  module _ (w : Wrote buf 0 (body_of t) r next) where
-    pub summed_room : r ≤ length next
-    summed_room = front_room buf (body_of t) r next body_room w
+  pub body_room : HasRoom w (body_of t)
+  body_room = due_first (body_of t) (line "sum=" (byte_sum (body_of t) % word32)) (due_all summed)
 
-    module _ {sum : ℕ} (e : sum ≡ byte_sum (take r next) % word32) where
-      pub sum_is : sum ≡ byte_sum (body_of t) % word32
-      sum_is = e ∙ ap (λ (x : List ℕ). byte_sum x % word32) (front_is buf (body_of t) r next body_room w)
+  module _ {v : Writer} (a : Appended w v (body_of t)) where
+    pub body_within : v.at ≤ length v.buf.now
+    body_within = front_within front body_room a
 
-      pub sum_room : Room next r (line "sum=" sum)
+    module _ {sum : ℕ} (e : sum ≡ byte_sum (take v.at v.buf.now) % word32) where
+      sum_is : sum ≡ byte_sum (body_of t) % word32
+      sum_is = e ∙ ap (λ (x : List ℕ). byte_sum x % word32) (front_is front body_room a)
+
+      pub sum_due : Due w (snapshot_of t) v (line "sum=" sum)
       unfolding snapshot_of
-      sum_room = rw sum_is (then_room buf 0 (body_of t) (line "sum=" (byte_sum (body_of t) % word32)) w room)
-
-      pub sum_wrote : {last : ℕ} {end : List ℕ} → Wrote next r (line "sum=" sum) last end → Wrote buf 0 (snapshot_of t) last end
-      unfolding snapshot_of
-      sum_wrote v = then_wrote buf 0 (body_of t) (line "sum=" (byte_sum (body_of t) % word32)) w (rw sum_is at v)
+      sum_due = rw sum_is (due_then (body_of t) (line "sum=" (byte_sum (body_of t) % word32)) (due_all summed) a)

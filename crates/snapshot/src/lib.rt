@@ -1,76 +1,73 @@
-// The snapshot's writer (01: the picture): objects by handle, waits by ticket. Each function asks for room for its text: the
-// public call has tested the buffer, and no snapshot of valid tables is longer (crates/model/proofs/SnapshotLength.antt).
+// The snapshot's writer: objects by handle, waits by ticket. Each function asks for room for its text: the public call has
+// tested the buffer, and no snapshot of valid tables is longer (crates/model/proofs/SnapshotLength.antt).
 #![tactic(auto)]
 
 ghost use Rattle.std.specs.Prelude.{◌≡◌, cond, ◌<◌, length, eqb};
 ghost use Rattle.model.specs.Sizes.{object_places, wait_places};
-ghost use Rattle.model.specs.Snapshot.{line};
 ghost use Rattle.cells.specs.Snapshot.{semaphore_text, mutex_text, event_text, fields_text, objects_text_below, object_total, wait_total, list_text_below, wait_text_at, waits_text_from, body_of, snapshot_of};
 ghost use Rattle.decimal.specs.Text.{Room, Wrote};
+ghost use Rattle.decimal.specs.Writing.{HasRoom, Appended};
 ghost use Rattle.kinds.specs.Values.{cells_of};
-ghost use Rattle.snapshot.specs.Values.{lines_of};
 
-use decimal::{put_line, put_text};
+use decimal::Writer;
 use kinds::{Kind, Object};
-use tables::{Cells, Header};
+use tables::Cells;
 
 // ---- objects
 
-fn put_semaphore(buf: &mut [u8], at: usize, h: u64, o: Object) -> usize
-    requires { Room buf.old at (semaphore_text h (cells_of o)) }
-    ensures { Wrote buf.old at (semaphore_text h (cells_of o)) result buf.new }
+// kept: a function for each kind, since its keys and their number differ; one function would only be told them all.
+fn put_semaphore(w: &mut Writer, h: u64, o: Object)
+    requires { HasRoom w.old (semaphore_text h (cells_of o)) }
+    ensures { Appended w.old w.new (semaphore_text h (cells_of o)) }
 {
-    let kind = put_line(buf, at, b"handle=", h);
-    let count = put_text(buf, kind, b"kind=sem\n");
-    let max = put_line(buf, count, b"count=", o.count);
-    put_line(buf, max, b"max=", o.attribute)
+    w.line(b"handle=", h);
+    w.text(b"kind=sem\n");
+    w.line(b"count=", o.count);
+    w.line(b"max=", o.attribute);
 }
 
-fn put_mutex(buf: &mut [u8], at: usize, h: u64, o: Object) -> usize
-    requires { Room buf.old at (mutex_text h (cells_of o)) }
-    ensures { Wrote buf.old at (mutex_text h (cells_of o)) result buf.new }
+fn put_mutex(w: &mut Writer, h: u64, o: Object)
+    requires { HasRoom w.old (mutex_text h (cells_of o)) }
+    ensures { Appended w.old w.new (mutex_text h (cells_of o)) }
 {
-    let kind = put_line(buf, at, b"handle=", h);
-    let owner = put_text(buf, kind, b"kind=mutex\n");
-    let count = put_line(buf, owner, b"owner=", o.owner);
-    let abandoned = put_line(buf, count, b"count=", o.count);
-    put_line(buf, abandoned, b"abandoned=", o.attribute)
+    w.line(b"handle=", h);
+    w.text(b"kind=mutex\n");
+    w.line(b"owner=", o.owner);
+    w.line(b"count=", o.count);
+    w.line(b"abandoned=", o.attribute);
 }
 
-fn put_event(buf: &mut [u8], at: usize, h: u64, o: Object) -> usize
-    requires { Room buf.old at (event_text h (cells_of o)) }
-    ensures { Wrote buf.old at (event_text h (cells_of o)) result buf.new }
+fn put_event(w: &mut Writer, h: u64, o: Object)
+    requires { HasRoom w.old (event_text h (cells_of o)) }
+    ensures { Appended w.old w.new (event_text h (cells_of o)) }
 {
-    let kind = put_line(buf, at, b"handle=", h);
-    let signaled = put_text(buf, kind, b"kind=event\n");
-    let manual = put_line(buf, signaled, b"signaled=", o.count);
-    put_line(buf, manual, b"manual=", o.attribute)
+    w.line(b"handle=", h);
+    w.text(b"kind=event\n");
+    w.line(b"signaled=", o.count);
+    w.line(b"manual=", o.attribute);
 }
 
 // An empty place has no text.
 #[tactic(auto, unfolding(cells::specs::Snapshot::fields_text))]
-fn put_object(buf: &mut [u8], at: usize, h: u64, o: Object) -> usize
-    requires { Room buf.old at (fields_text h (cells_of o)) }
-    ensures { Wrote buf.old at (fields_text h (cells_of o)) result buf.new }
+fn put_object(w: &mut Writer, h: u64, o: Object)
+    requires { HasRoom w.old (fields_text h (cells_of o)) }
+    ensures { Appended w.old w.new (fields_text h (cells_of o)) }
 {
     match Kind::try_from(o.kind) {
-        Ok(Kind::Semaphore) => put_semaphore(buf, at, h, o),
-        Ok(Kind::Mutex) => put_mutex(buf, at, h, o),
-        Ok(Kind::Event) => put_event(buf, at, h, o),
-        Err(_) => at,
+        Ok(Kind::Semaphore) => put_semaphore(w, h, o),
+        Ok(Kind::Mutex) => put_mutex(w, h, o),
+        Ok(Kind::Event) => put_event(w, h, o),
+        Err(_) => {}
     }
 }
 
-fn put_objects(buf: &mut [u8], at: usize, t: &Cells) -> usize
-    requires { Room buf.old at (objects_text_below t.now object_places) }
-    ensures { Wrote buf.old at (objects_text_below t.now object_places) result buf.new }
+fn put_objects(w: &mut Writer, t: &Cells)
+    requires { HasRoom w.old (objects_text_below t.now object_places) }
+    ensures { Appended w.old w.new (objects_text_below t.now object_places) }
 {
-    let mut end = at;
     for p in 0..tables::OBJECT_PLACES {
-        let o = tables::object_at(t, p);
-        end = put_object(buf, end, (p + 1) as u64, o);
+        put_object(w, (p + 1) as u64, tables::object_at(t, p));
     }
-    end
 }
 
 fn object_total(t: &Cells) -> u64
@@ -78,8 +75,7 @@ fn object_total(t: &Cells) -> u64
 {
     let mut total = 0;
     for p in 0..tables::OBJECT_PLACES {
-        let o = tables::object_at(t, p);
-        total += u64::from(0 < o.kind);
+        total += u64::from(0 < tables::object_at(t, p).kind);
     }
     total
 }
@@ -91,92 +87,79 @@ fn wait_total(t: &Cells) -> u64
 {
     let mut total = 0;
     for p in 0..tables::WAIT_PLACES {
-        let ticket = tables::ticket_at(t, p);
-        total += u64::from(0 < ticket);
+        total += u64::from(0 < tables::ticket_at(t, p));
     }
     total
 }
 
-// A word for a cell that is 0, or another.
-fn put_word(buf: &mut [u8], at: usize, cell: u64, zero: &[u8], other: &[u8]) -> usize
-    requires { Room buf.old at (cond (eqb cell 0) zero.now other.now) }
-    ensures { Wrote buf.old at (cond (eqb cell 0) zero.now other.now) result buf.new }
+// The first word for a cell of 0, else the second.
+fn put_word(w: &mut Writer, cell: u64, first: &[u8], second: &[u8])
+    requires { HasRoom w.old (cond (eqb cell 0) first.now second.now) }
+    ensures { Appended w.old w.new (cond (eqb cell 0) first.now second.now) }
 {
-    put_text(buf, at, if cell == 0 { zero } else { other })
-}
-
-fn put_listed(buf: &mut [u8], at: usize, h: u64) -> usize
-    requires { Room buf.old at (line "obj=" h) }
-    ensures { Wrote buf.old at (line "obj=" h) result buf.new }
-{
-    put_line(buf, at, b"obj=", h)
-}
-
-fn put_list(buf: &mut [u8], at: usize, list: &[u64]) -> usize
-    requires { Room buf.old at (list_text_below list.now (length list.now)) }
-    ensures { Wrote buf.old at (list_text_below list.now (length list.now)) result buf.new }
-{
-    let mut end = at;
-    for &h in list {
-        end = put_listed(buf, end, h);
+    if cell == 0 {
+        w.text(first);
+    } else {
+        w.text(second);
     }
-    end
 }
 
-// A wait's lines, from what was read of it.
-fn put_lines(buf: &mut [u8], at: usize, w: Header, list: &[u64]) -> usize
-    requires { Room buf.old at (lines_of w list.now) }
-    ensures { Wrote buf.old at (lines_of w list.now) result buf.new }
+fn put_list(w: &mut Writer, list: &[u64])
+    requires { HasRoom w.old (list_text_below list.now (length list.now)) }
+    ensures { Appended w.old w.new (list_text_below list.now (length list.now)) }
 {
-    let a = put_line(buf, at, b"wait=", w.ticket);
-    let b = put_word(buf, a, w.terms.mode, b"mode=any\n", b"mode=all\n");
-    let c = put_line(buf, b, b"owner=", w.terms.owner);
-    let d = put_word(buf, c, w.terms.clock, b"clock=mono\n", b"clock=real\n");
-    let e = put_line(buf, d, b"timeout=", w.terms.timeout);
-    let f = put_line(buf, e, b"alert=", w.terms.alert);
-    let g = put_line(buf, f, b"n=", list.len() as u64);
-    put_list(buf, g, list)
+    for h in list {
+        w.line(b"obj=", *h);
+    }
 }
 
-fn put_wait(buf: &mut [u8], at: usize, t: &Cells, p: usize) -> usize
-    requires { (p < wait_places) × Room buf.old at (wait_text_at t.now p) }
-    ensures { Wrote buf.old at (wait_text_at t.now p) result buf.new }
+fn put_wait(w: &mut Writer, t: &Cells, p: usize)
+    requires place { p < wait_places }
+    requires room { HasRoom w.old (wait_text_at t.now p) }
+    ensures { Appended w.old w.new (wait_text_at t.now p) }
 {
-    let w = tables::header_at(t, p);
+    let header = tables::header_at(t, p);
+    let terms = header.terms;
     let list = tables::list_of(t, p);
-    put_lines(buf, at, w, list)
+    w.line(b"wait=", header.ticket);
+    put_word(w, terms.mode, b"mode=any\n", b"mode=all\n");
+    w.line(b"owner=", terms.owner);
+    put_word(w, terms.clock, b"clock=mono\n", b"clock=real\n");
+    w.line(b"timeout=", terms.timeout);
+    w.line(b"alert=", terms.alert);
+    w.line(b"n=", list.len() as u64);
+    put_list(w, list);
 }
 
 // The waits, lowest ticket first.
-fn put_waits(buf: &mut [u8], at: usize, t: &Cells) -> usize
-    requires { Room buf.old at (waits_text_from wait_places t.now 0) }
-    ensures { Wrote buf.old at (waits_text_from wait_places t.now 0) result buf.new }
+fn put_waits(w: &mut Writer, t: &Cells)
+    requires { HasRoom w.old (waits_text_from wait_places t.now 0) }
+    ensures { Appended w.old w.new (waits_text_from wait_places t.now 0) }
 {
-    let mut end = at;
     let mut last = 0;
-    for turn in 0..tables::WAIT_PLACES {
+    for _ in 0..tables::WAIT_PLACES {
         let Some(p) = ending::next_wait(t, last) else {
-            return end;
+            return;
         };
-        end = put_wait(buf, end, t, p);
+        put_wait(w, t, p);
         last = tables::ticket_at(t, p);
     }
-    end
 }
 
-// All lines but the sum, from the buffer's front on; their length.
-fn write_body(buf: &mut [u8], t: &Cells) -> usize
-    requires { Room buf.old 0 (body_of t.now) }
-    ensures { Wrote buf.old 0 (body_of t.now) result buf.new }
+// ---- all lines but the sum, then the sum
+
+fn put_body(w: &mut Writer, t: &Cells)
+    requires { HasRoom w.old (body_of t.now) }
+    ensures { Appended w.old w.new (body_of t.now) }
 {
     let next = tables::next_ticket(t);
     let objects = object_total(t);
     let waits = wait_total(t);
-    let a = put_line(buf, 0, b"next=", next);
-    let b = put_line(buf, a, b"objects=", objects);
-    let c = put_objects(buf, b, t);
-    let d = put_line(buf, c, b"waits=", waits);
-    put_waits(buf, d, t)
+    w.line(b"next=", next);
+    w.line(b"objects=", objects);
+    put_objects(w, t);
+    w.line(b"waits=", waits);
+    put_waits(w, t);
 }
 
 // The whole text, from the buffer's front on; its length.
@@ -184,7 +167,9 @@ pub fn write(buf: &mut [u8], t: &Cells) -> usize
     requires { Room buf.old 0 (snapshot_of t.now) }
     ensures { Wrote buf.old 0 (snapshot_of t.now) result buf.new }
 {
-    let end = write_body(buf, t);
-    let sum = u64::from(byte_sum::byte_sum(&buf[..end]));
-    put_line(buf, end, b"sum=", sum)
+    let mut w = Writer::new(buf);
+    put_body(&mut w, t);
+    let sum = u64::from(byte_sum::byte_sum(w.written()));
+    w.line(b"sum=", sum);
+    w.at
 }

@@ -1,8 +1,6 @@
-use Rattle.snapshot.proofs.Laws.{counted}
-use lib.Dec.{ltb}
-use mathlib.Core.Path.{◌≡◌}
-use Prim.Native.Nat.{◌≤◌}
+use Rattle.std.proofs.Common.{◌≡◌, ◌≤◌, ltb}
 use Rattle.cells.specs.Objects.{fields_at}
+use Rattle.snapshot.proofs.Laws.{counted}
 use Rattle.snapshot.proofs.object_total.Given as goal
 
 abbrev pub invariant-loop-p : goal.invariant-loop-p

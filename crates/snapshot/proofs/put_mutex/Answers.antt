@@ -1,29 +1,27 @@
-use Rattle.decimal.proofs.Laws.{first_room, then_room, then_wrote}
-use Rattle.model.specs.Snapshot.{ascii, line}
-use mathlib.Core.List.{List, ◌++◌}
-use Prim.Native.Nat.{ℕ}
+use Rattle.model.specs.Snapshot.{line}
+use Rattle.decimal.proofs.Laws.{due_all, due_first, due_then}
 use Rattle.snapshot.proofs.put_mutex.Goals as goal
 
-pub put_line-kind-requires : goal.put_line-kind-requires
+pub line-requires : goal.line-requires
 unfolding line
-put_line-kind-requires c = let a = c.args in let x0 : List ℕ = line "handle=" a.h in let x1 : List ℕ = ascii "kind=mutex\n" in let x2 : List ℕ = line "owner=" a.o.owner in let x3 : List ℕ = line "count=" a.o.count in let x4 : List ℕ = line "abandoned=" a.o.attribute in first_room a.buf.now a.at x0 (x1 ++ (x2 ++ (x3 ++ (x4)))) c.requires
+line-requires c = due_first _ _ (due_all c.requires)
 
-pub put_text-owner-requires : goal.put_text-owner-requires
+pub text-requires : goal.text-requires
 unfolding line
-put_text-owner-requires c = let a = c.args in let x0 : List ℕ = line "handle=" a.h in let x1 : List ℕ = ascii "kind=mutex\n" in let x2 : List ℕ = line "owner=" a.o.owner in let x3 : List ℕ = line "count=" a.o.count in let x4 : List ℕ = line "abandoned=" a.o.attribute in first_room c.put_line-kind.new.buf c.put_line-kind.result x1 (x2 ++ (x3 ++ (x4))) (then_room a.buf.now a.at x0 (x1 ++ (x2 ++ (x3 ++ (x4)))) c.put_line-kind.ensures c.requires)
+text-requires c = let d1 = due_then _ _ (due_all c.requires) c.line.ensures in due_first _ _ d1
 
-pub put_line-count-requires : goal.put_line-count-requires
+pub line-requires-2 : goal.line-requires-2
 unfolding line
-put_line-count-requires c = let a = c.args in let x0 : List ℕ = line "handle=" a.h in let x1 : List ℕ = ascii "kind=mutex\n" in let x2 : List ℕ = line "owner=" a.o.owner in let x3 : List ℕ = line "count=" a.o.count in let x4 : List ℕ = line "abandoned=" a.o.attribute in first_room c.put_text-owner.new.buf c.put_text-owner.result x2 (x3 ++ (x4)) (then_room c.put_line-kind.new.buf c.put_line-kind.result x1 (x2 ++ (x3 ++ (x4))) c.put_text-owner.ensures (then_room a.buf.now a.at x0 (x1 ++ (x2 ++ (x3 ++ (x4)))) c.put_line-kind.ensures c.requires))
+line-requires-2 c = let d1 = due_then _ _ (due_all c.requires) c.line.ensures in let d2 = due_then _ _ d1 c.text.ensures in due_first _ _ d2
 
-pub put_line-abandoned-requires : goal.put_line-abandoned-requires
+pub line-requires-3 : goal.line-requires-3
 unfolding line
-put_line-abandoned-requires c = let a = c.args in let x0 : List ℕ = line "handle=" a.h in let x1 : List ℕ = ascii "kind=mutex\n" in let x2 : List ℕ = line "owner=" a.o.owner in let x3 : List ℕ = line "count=" a.o.count in let x4 : List ℕ = line "abandoned=" a.o.attribute in first_room c.put_line-count.new.buf c.put_line-count.result x3 x4 (then_room c.put_text-owner.new.buf c.put_text-owner.result x2 (x3 ++ (x4)) c.put_line-count.ensures (then_room c.put_line-kind.new.buf c.put_line-kind.result x1 (x2 ++ (x3 ++ (x4))) c.put_text-owner.ensures (then_room a.buf.now a.at x0 (x1 ++ (x2 ++ (x3 ++ (x4)))) c.put_line-kind.ensures c.requires)))
+line-requires-3 c = let d1 = due_then _ _ (due_all c.requires) c.line.ensures in let d2 = due_then _ _ d1 c.text.ensures in let d3 = due_then _ _ d2 c.line-2.ensures in due_first _ _ d3
 
-pub put_line-requires : goal.put_line-requires
+pub line-requires-4 : goal.line-requires-4
 unfolding line
-put_line-requires c = let a = c.args in let x0 : List ℕ = line "handle=" a.h in let x1 : List ℕ = ascii "kind=mutex\n" in let x2 : List ℕ = line "owner=" a.o.owner in let x3 : List ℕ = line "count=" a.o.count in let x4 : List ℕ = line "abandoned=" a.o.attribute in then_room c.put_line-count.new.buf c.put_line-count.result x3 x4 c.put_line-abandoned.ensures (then_room c.put_text-owner.new.buf c.put_text-owner.result x2 (x3 ++ (x4)) c.put_line-count.ensures (then_room c.put_line-kind.new.buf c.put_line-kind.result x1 (x2 ++ (x3 ++ (x4))) c.put_text-owner.ensures (then_room a.buf.now a.at x0 (x1 ++ (x2 ++ (x3 ++ (x4)))) c.put_line-kind.ensures c.requires)))
+line-requires-4 c = let d1 = due_then _ _ (due_all c.requires) c.line.ensures in let d2 = due_then _ _ d1 c.text.ensures in let d3 = due_then _ _ d2 c.line-2.ensures in let d4 = due_then _ _ d3 c.line-3.ensures in d4.room
 
 pub returns : goal.returns
 unfolding line
-returns c = let a = c.args in let x0 : List ℕ = line "handle=" a.h in let x1 : List ℕ = ascii "kind=mutex\n" in let x2 : List ℕ = line "owner=" a.o.owner in let x3 : List ℕ = line "count=" a.o.count in let x4 : List ℕ = line "abandoned=" a.o.attribute in then_wrote a.buf.now a.at x0 (x1 ++ (x2 ++ (x3 ++ (x4)))) c.put_line-kind.ensures (then_wrote c.put_line-kind.new.buf c.put_line-kind.result x1 (x2 ++ (x3 ++ (x4))) c.put_text-owner.ensures (then_wrote c.put_text-owner.new.buf c.put_text-owner.result x2 (x3 ++ (x4)) c.put_line-count.ensures (then_wrote c.put_line-count.new.buf c.put_line-count.result x3 x4 c.put_line-abandoned.ensures c.put_line.ensures)))
+returns c = let d1 = due_then _ _ (due_all c.requires) c.line.ensures in let d2 = due_then _ _ d1 c.text.ensures in let d3 = due_then _ _ d2 c.line-2.ensures in let d4 = due_then _ _ d3 c.line-3.ensures in d4.done c.line-4.ensures

@@ -1,43 +1,23 @@
--- Four texts end to end.
-use Rattle.snapshot.proofs.Laws.{room_first, room_second, room_third, room_fourth, wrote_four}
-use Rattle.model.specs.Snapshot.{ascii, line}
-use mathlib.Core.List.{List}
-use Prim.Native.Nat.{ℕ}
+use Rattle.model.specs.Snapshot.{line}
+use Rattle.decimal.proofs.Laws.{due_all, due_first, due_then}
 use Rattle.snapshot.proofs.put_semaphore.Goals as goal
 
-abbrev handle : ℕ → List ℕ
-handle h = line "handle=" h
-
-abbrev count : ℕ → List ℕ
-count n = line "count=" n
-
-abbrev attribute : ℕ → List ℕ
-attribute n = line "max=" n
-
-abbrev kind : List ℕ
-kind = ascii "kind=sem\n"
-
-pub put_line-kind-requires : goal.put_line-kind-requires
+pub line-requires : goal.line-requires
 unfolding line
-put_line-kind-requires c = let s = c in
-    room_first s.args.buf.now s.args.at (handle s.args.h) kind (count s.args.o.count) (attribute s.args.o.attribute) s.requires
+line-requires c = due_first _ _ (due_all c.requires)
 
-pub put_text-count-requires : goal.put_text-count-requires
+pub text-requires : goal.text-requires
 unfolding line
-put_text-count-requires c = let s = c in
-    room_second s.args.buf.now s.args.at (handle s.args.h) kind (count s.args.o.count) (attribute s.args.o.attribute) s.requires c.put_line-kind.ensures
+text-requires c = let d1 = due_then _ _ (due_all c.requires) c.line.ensures in due_first _ _ d1
 
-pub put_line-max-requires : goal.put_line-max-requires
+pub line-requires-2 : goal.line-requires-2
 unfolding line
-put_line-max-requires c = let s = c in
-    room_third s.args.buf.now s.args.at (handle s.args.h) kind (count s.args.o.count) (attribute s.args.o.attribute) s.requires c.put_line-kind.ensures c.put_text-count.ensures
+line-requires-2 c = let d1 = due_then _ _ (due_all c.requires) c.line.ensures in let d2 = due_then _ _ d1 c.text.ensures in due_first _ _ d2
 
-pub put_line-requires : goal.put_line-requires
+pub line-requires-3 : goal.line-requires-3
 unfolding line
-put_line-requires c = let s = c in
-    room_fourth s.args.buf.now s.args.at (handle s.args.h) kind (count s.args.o.count) (attribute s.args.o.attribute) s.requires c.put_line-kind.ensures c.put_text-count.ensures c.put_line-max.ensures
+line-requires-3 c = let d1 = due_then _ _ (due_all c.requires) c.line.ensures in let d2 = due_then _ _ d1 c.text.ensures in let d3 = due_then _ _ d2 c.line-2.ensures in d3.room
 
 pub returns : goal.returns
 unfolding line
-returns c = let s = c in
-    wrote_four s.args.buf.now s.args.at (handle s.args.h) kind (count s.args.o.count) (attribute s.args.o.attribute) s.requires c.put_line-kind.ensures c.put_text-count.ensures c.put_line-max.ensures c.put_line.ensures
+returns c = let d1 = due_then _ _ (due_all c.requires) c.line.ensures in let d2 = due_then _ _ d1 c.text.ensures in let d3 = due_then _ _ d2 c.line-2.ensures in d3.done c.line-3.ensures

@@ -1,11 +1,8 @@
-use Rattle.decimal.specs.Text.{Room, Wrote}
-use Rattle.cells.specs.Snapshot.{waits_text_from}
+use Rattle.std.proofs.Common.{◌-◌}
 use Rattle.model.specs.Sizes.{wait_places}
-use mathlib.Core.List.{List}
-use mathlib.Core.Path.{◌≡◌}
-use lib.ListN.{length}
-use Prim.Native.Nat.{ℕ, ◌-◌}
+use Rattle.cells.specs.Snapshot.{waits_text_from}
+use Rattle.decimal.proofs.Laws.{Due}
 use Rattle.snapshot.proofs.put_waits.Given as goal
 
-abbrev pub invariant-loop-turn : goal.invariant-loop-turn
-invariant-loop-turn l = (length l.buf ≡ length l.initial.buf) × Room l.buf l.end (waits_text_from (wait_places - l.turn) l.t l.last) × ((r : ℕ) (e : List ℕ) → Wrote l.buf l.end (waits_text_from (wait_places - l.turn) l.t l.last) r e → Wrote l.initial.buf l.at (waits_text_from wait_places l.t 0) r e)
+abbrev pub invariant-loop : goal.invariant-loop
+invariant-loop l = Due l.initial.w (waits_text_from wait_places l.t 0) l.w (waits_text_from (wait_places - l.counter) l.t l.last)

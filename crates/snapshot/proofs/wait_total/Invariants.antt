@@ -1,8 +1,6 @@
-use Rattle.snapshot.proofs.Laws.{counted}
-use lib.Dec.{ltb}
-use mathlib.Core.Path.{◌≡◌}
-use Prim.Native.Nat.{◌≤◌}
+use Rattle.std.proofs.Common.{◌≡◌, ◌≤◌, ltb}
 use Rattle.cells.specs.Waits.{ticket_at}
+use Rattle.snapshot.proofs.Laws.{counted}
 use Rattle.snapshot.proofs.wait_total.Given as goal
 
 abbrev pub invariant-loop-p : goal.invariant-loop-p

@@ -1,22 +1,27 @@
-use mathlib.Core.Path.{◌∙◌, sym}
-use lib.Seq.{length-take-le}
+use Rattle.std.proofs.Common.{◌≡◌, ◌+◌, length, sym, ◌∙◌, rules}
+use lib.Seq.{sets}
 use Rattle.model.specs.Snapshot.{line}
-use Rattle.snapshot.proofs.Laws.{body_room, summed_room, sum_room, sum_wrote}
+use Rattle.cells.specs.Snapshot.{snapshot_of}
+use Rattle.decimal.specs.Writing.{Appended}
+use Rattle.snapshot.proofs.Laws.{opened, body_room, body_within, sum_due}
 use Rattle.snapshot.proofs.write.Goals as goal
 
-pub write_body-end-requires : goal.write_body-end-requires
-write_body-end-requires c = body_room c.args.buf.now c.args.t.now 0 c.args.buf.now c.requires
+pub put_body-requires : goal.put_body-requires
+put_body-requires c = let n = c.new-w.ensures in let room = opened n.unwritten n.front c.requires in body_room c.args.t.now n.front room
 
-pub slice_bounds-byte_sum-end : goal.slice_bounds-byte_sum-end
-slice_bounds-byte_sum-end c = summed_room c.args.buf.now c.args.t.now c.write_body-end.result c.write_body-end.new.buf c.requires c.write_body-end.ensures
+pub written-requires : goal.written-requires
+written-requires c = let n = c.new-w.ensures in let room = opened n.unwritten n.front c.requires in body_within c.args.t.now n.front room c.put_body.ensures
 
-pub slice_bounds-byte_sum-end-2 : goal.slice_bounds-byte_sum-end-2
-slice_bounds-byte_sum-end-2 c = sym (length-take-le _ _ (summed_room c.args.buf.now c.args.t.now c.write_body-end.result c.write_body-end.new.buf c.requires c.write_body-end.ensures))
-
-pub put_line-requires : goal.put_line-requires
+pub line-requires : goal.line-requires
 unfolding line
-put_line-requires c = sum_room c.args.buf.now c.args.t.now c.write_body-end.result c.write_body-end.new.buf c.requires c.write_body-end.ensures (c.from-sum.ensures ∙ c.byte_sum.ensures)
+line-requires c = let n = c.new-w.ensures in let room = opened n.unwritten n.front c.requires in
+    (sum_due c.args.t.now n.front room c.put_body.ensures (c.from-sum.ensures ∙ (c.byte_sum.ensures ∙ rw c.written.ensures))).room
 
 pub returns : goal.returns
 unfolding line
-returns c = sum_wrote c.args.buf.now c.args.t.now c.write_body-end.result c.write_body-end.new.buf c.requires c.write_body-end.ensures (c.from-sum.ensures ∙ c.byte_sum.ensures) c.put_line.ensures
+returns c = let n = c.new-w.ensures in let room = opened n.unwritten n.front c.requires in
+    let a : Appended c.new-w.result c.line.new.self (snapshot_of c.args.t.now) = (sum_due c.args.t.now n.front room c.put_body.ensures (c.from-sum.ensures ∙ (c.byte_sum.ensures ∙ rw c.written.ensures))).done c.line.ensures in
+    let end : c.line.new.self.buf.now ≡ sets c.args.buf.now 0 (snapshot_of c.args.t.now) = a.wrote.0 ∙ rw (n.unwritten, n.front) in
+    let name = sym (a.same ∙ n.same_reference) in
+    let at : c.line.new.self.at ≡ 0 + length (snapshot_of c.args.t.now) = a.wrote.1 ∙ rw n.front in
+    (search rules, at)
