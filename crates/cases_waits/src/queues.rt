@@ -153,7 +153,7 @@ fn last_ticket(rt: &impl Print) -> io::Result<()> {
     let t = Tables::new()
         .create_event(rt, 0, 1)?
         .create_semaphore(rt, 1, 1)?
-        .put_next(rt, NEVER - 1)?
+        .put_next(rt, "next ticket written:", NEVER - 1)?
         .any(rt, &[1], 7)?;
     let t = next(rt, t)?;
     let t = no_ticket(rt, t)?.set(rt, 1)?.any(rt, &[2], 8)?;
@@ -166,7 +166,7 @@ fn full_and_spent(rt: &impl Print) -> io::Result<()> {
     Tables::new()
         .create_event(rt, 0, 1)?
         .fill_queue(rt)?
-        .put_next(rt, NEVER)?
+        .put_next(rt, "next ticket written:", NEVER)?
         .any(rt, &[1], 7)?
         .cancel(rt, 5)?
         .any(rt, &[1], 7)?;

@@ -3,7 +3,7 @@ use call_lines::memory::Tables;
 use call_lines::waiting::{NEVER, Terms};
 use std::io;
 
-const MOST: u32 = 4294967295;
+const MOST: u32 = u32::MAX;
 
 fn reading(rt: &impl Print, number: u32) -> io::Result<Tables> {
     println!(rt; "P{number}")?;
