@@ -60,6 +60,15 @@ impl WaitCell {
     }
 }
 
+// The first cell of the objects and of the waits, and how many cells a place has.
+const OBJECTS: usize = 1;
+
+const OBJECT_SIZE: usize = 4;
+
+const WAITS: usize = 2049;
+
+const WAIT_SIZE: usize = 71;
+
 // A cell of the tables, by its place, from 0 on, and what it is there. The object of handle 1 stands in place 0.
 #[derive(Clone, Copy)]
 pub enum Cell {
@@ -72,8 +81,8 @@ impl Cell {
     pub fn number(self) -> usize {
         match self {
             Cell::NextTicket => 0,
-            Cell::Object(place, cell) => 1 + 4 * usize::from(place) + cell as usize,
-            Cell::Wait(place, cell) => 2049 + 71 * usize::from(place) + cell.number(),
+            Cell::Object(place, cell) => OBJECTS + OBJECT_SIZE * usize::from(place) + cell as usize,
+            Cell::Wait(place, cell) => WAITS + WAIT_SIZE * usize::from(place) + cell.number(),
         }
     }
 }

@@ -7,6 +7,11 @@ use std::{fmt, io};
 
 pub const NEVER: u64 = u64::MAX;
 
+// The two clocks, as the flags of a wait name them.
+pub const MONOTONIC: u32 = 0;
+
+pub const REAL_TIME: u32 = 1;
+
 // A longer list is shown by its length alone.
 const SHOWN: usize = 8;
 
@@ -28,7 +33,7 @@ impl fmt::Display for Handles<'_> {
     }
 }
 
-// The arguments of a wait beside its list. The flags are the clock: 0 monotonic, 1 real-time.
+// The arguments of a wait beside its list.
 #[derive(Clone, Copy)]
 pub struct Terms {
     pub owner: u32,
@@ -45,7 +50,7 @@ impl Terms {
         Self {
             owner,
             alert: 0,
-            flags: 0,
+            flags: MONOTONIC,
             pad: 0,
             timeout: NEVER,
             time: 0,

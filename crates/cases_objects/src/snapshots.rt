@@ -5,7 +5,7 @@ ghost use Rattle.call_lines.specs.Kept.{Kept};
 
 use call_lines::memory::{Cell, Cells, TABLE_LENGTH, Tables, put};
 use call_lines::verdict::{is_filled, rest};
-use call_lines::waiting::{NEVER, Terms};
+use call_lines::waiting::{MONOTONIC, NEVER, REAL_TIME, Terms};
 use ntsync::Written;
 use std::io;
 use std::io::Write;
@@ -72,8 +72,8 @@ fn objects(rt: &impl Print) -> io::Result<Tables> {
 
 // Freed places are taken again: in the order of places stand the tickets 6, 2, 7, none, 5.
 fn queued(rt: &impl Print, t: Tables) -> io::Result<Tables> {
-    let real_time = Terms::of(10).until(1, 100, 99).alerted(5);
-    let ceiling = Terms::of(CEILING).until(0, 1, 0).alerted(5);
+    let real_time = Terms::of(10).until(REAL_TIME, 100, 99).alerted(5);
+    let ceiling = Terms::of(CEILING).until(MONOTONIC, 1, 0).alerted(5);
     t.any(rt, &[1], 9)?
         .wait_any(rt, &[5, 4, 5], real_time)?
         .all(rt, &[2, 1], 11)?
@@ -82,7 +82,7 @@ fn queued(rt: &impl Print, t: Tables) -> io::Result<Tables> {
         .cancel(rt, 1)?
         .all(rt, &[4], 13)?
         .cancel(rt, 3)?
-        .wait_any(rt, &[5], Terms::of(1).until(1, NEVER - 1, 0))?
+        .wait_any(rt, &[5], Terms::of(1).until(REAL_TIME, NEVER - 1, 0))?
         .cancel(rt, 4)
 }
 

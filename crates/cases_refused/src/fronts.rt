@@ -1,7 +1,7 @@
 // The calls that hand back the filled front of the caller's own wake list.
 use call_lines::memory::{Cells, Tables};
 use call_lines::verdict::{altered, rest};
-use call_lines::waiting::Terms;
+use call_lines::waiting::{REAL_TIME, Terms};
 use call_lines::woken::{UNTOUCHED, is_untouched};
 use std::io;
 
@@ -80,7 +80,7 @@ fn queued(rt: &impl Print) -> io::Result<Tables> {
         .create_event(rt, 0, 0)?
         .any(rt, &[1], 7)?
         .all(rt, &[1], 8)?
-        .wait_any(rt, &[2], Terms::of(9).until(1, 50, 0))
+        .wait_any(rt, &[2], Terms::of(9).until(REAL_TIME, 50, 0))
 }
 
 // After a refusal the front is empty: the mark is not in the list.

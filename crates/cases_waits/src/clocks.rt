@@ -1,11 +1,7 @@
 // The two clocks: which waits expire, and in what order they are told.
 use call_lines::memory::{Cell, Tables, WaitCell};
-use call_lines::waiting::{NEVER, Terms};
+use call_lines::waiting::{MONOTONIC, NEVER, REAL_TIME, Terms};
 use std::io;
-
-const MONOTONIC: u32 = 0;
-
-const REAL_TIME: u32 = 1;
 
 // The last time that is not "never".
 const LAST_TIME: u64 = NEVER - 1;

@@ -1,6 +1,6 @@
 // The limits of the queue: 32 waits, 64 handles in a list, handle 512, the last ticket.
 use call_lines::memory::{Cell, Cells, Tables};
-use call_lines::waiting::{NEVER, Terms};
+use call_lines::waiting::{MONOTONIC, NEVER, Terms};
 use call_lines::woken::WAKE_LENGTH;
 use std::io;
 
@@ -35,7 +35,7 @@ fn posted(rt: &impl Print, t: Tables, n: u32) -> io::Result<Tables> {
 fn at_full_queue(rt: &impl Print, t: Tables) -> io::Result<Tables> {
     t.any(rt, &[1], 7)?
         .all(rt, &[1, 2], 7)?
-        .wait_any(rt, &[1], Terms::of(7).until(0, 5, 5))?
+        .wait_any(rt, &[1], Terms::of(7).until(MONOTONIC, 5, 5))?
         .any(rt, &[1, 2], 7)?
         .any(rt, &[2], 7)?
         .wait_any(rt, &[1], Terms::of(7).alerted(3))?
@@ -143,7 +143,7 @@ fn next(rt: &impl Print, t: Tables) -> io::Result<Tables> {
 fn no_ticket(rt: &impl Print, t: Tables) -> io::Result<Tables> {
     t.any(rt, &[1], 8)?
         .all(rt, &[1, 2], 8)?
-        .wait_any(rt, &[1], Terms::of(8).until(0, 5, 5))?
+        .wait_any(rt, &[1], Terms::of(8).until(MONOTONIC, 5, 5))?
         .any(rt, &[1, 2], 8)?
         .read_semaphore(rt, 2)
 }
