@@ -9,9 +9,5 @@ ghost use Rattle.cells.specs.Validity.{valid_cells};
 pub extern "C" fn bench_valid(t: &[u64]) -> u32
     ensures { result ≡ bit (valid_cells t.now) }
 {
-    let valid = validity::valid(t);
-    if valid {
-        return 1;
-    }
-    0
+    u32::from(validity::valid(t))
 }

@@ -3,6 +3,7 @@
 ghost use Rattle.std.specs.Prelude.{◌≤◌};
 
 use crate::verdict::altered;
+use std::fmt::Display;
 use std::io;
 
 pub const TABLE_LENGTH: usize = 4321;
@@ -20,6 +21,7 @@ pub struct Tables {
 // One cell more than the tables have, so that a slice that is too long can be lent too.
 pub const SPACE_LENGTH: usize = TABLE_LENGTH + 1;
 
+// The cells of an object place, in their order.
 #[derive(Clone, Copy)]
 pub enum ObjectCell {
     Kind,
@@ -28,19 +30,7 @@ pub enum ObjectCell {
     Attribute,
 }
 
-impl ObjectCell {
-    fn number(self) -> usize
-        ensures { result ≤ 3 }
-    {
-        match self {
-            ObjectCell::Kind => 0,
-            ObjectCell::Count => 1,
-            ObjectCell::Owner => 2,
-            ObjectCell::Attribute => 3,
-        }
-    }
-}
-
+// The cells of a wait place, in their order; the list is the last 64.
 #[derive(Clone, Copy)]
 pub enum WaitCell {
     Ticket,
@@ -50,7 +40,6 @@ pub enum WaitCell {
     Timeout,
     Count,
     Alert,
-    // A handle of the list, from 0 on.
     Listed(u8),
 }
 
@@ -71,6 +60,15 @@ impl WaitCell {
     }
 }
 
+// The first cell of the objects and of the waits, and how many cells a place has.
+const OBJECTS: usize = 1;
+
+const OBJECT_SIZE: usize = 4;
+
+const WAITS: usize = 2049;
+
+const WAIT_SIZE: usize = 71;
+
 // A cell of the tables, by its place, from 0 on, and what it is there. The object of handle 1 stands in place 0.
 #[derive(Clone, Copy)]
 pub enum Cell {
@@ -83,8 +81,8 @@ impl Cell {
     pub fn number(self) -> usize {
         match self {
             Cell::NextTicket => 0,
-            Cell::Object(place, cell) => 1 + 4 * usize::from(place) + cell.number(),
-            Cell::Wait(place, cell) => 2049 + 71 * usize::from(place) + cell.number(),
+            Cell::Object(place, cell) => OBJECTS + OBJECT_SIZE * usize::from(place) + cell as usize,
+            Cell::Wait(place, cell) => WAITS + WAIT_SIZE * usize::from(place) + cell.number(),
         }
     }
 }
@@ -108,7 +106,21 @@ impl Tables {
         Self { cells }
     }
 
-    // Ends the line of a call that left these cells.
+    // Ends the line of a call that is lent the cells for writing: what it told, and whether a cell changed.
+    pub fn told<R: Display + Drop, F: FnOnce(&mut Cells) -> R>(
+        self,
+        rt: &impl Print,
+        call: F,
+    ) -> io::Result<Self>
+        requires { F.IsAlwaysCallable call }
+    {
+        let mut cells = self.cells;
+        let told = call(&mut cells);
+        print!(rt; " {told}")?;
+        self.then(rt, cells)
+    }
+
+    // Ends a line with whether these cells are others.
     pub fn then(self, rt: &impl Print, cells: Cells) -> io::Result<Self> {
         println!(rt; " {}", altered(&cells, &self.cells))?;
         Ok(Self { cells })

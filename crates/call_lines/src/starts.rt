@@ -24,8 +24,8 @@ impl Tables {
     }
 
     // Writes the next ticket, which no call sets.
-    pub fn put_next(self, rt: &impl Print, ticket: u64) -> io::Result<Self> {
-        println!(rt; "next ticket written: {ticket}")?;
+    pub fn put_next(self, rt: &impl Print, label: &str, ticket: u64) -> io::Result<Self> {
+        println!(rt; "{label} {ticket}")?;
         Ok(self.put(Cell::NextTicket, ticket))
     }
 

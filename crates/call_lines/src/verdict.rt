@@ -1,7 +1,7 @@
 // What the end of a line says: whether the cells of the tables were left, and those behind a result.
-ghost use Rattle.std.specs.Prelude.{◌≡◌, true, ◌↔◌};
-ghost use Rattle.call_lines.specs.Kept.{Kept};
+ghost use Rattle.std.specs.Prelude.{◌≡◌, true, ◌↔◌, All, drop};
 
+// kept beside `==`: its promise is the one that "unaltered" and "the same cells" rest on.
 pub fn same(a: &[u64], b: &[u64]) -> bool
     ensures { (result ≡ true → a.now ≡ b.now) × (a.now ≡ b.now → result ≡ true) }
 {
@@ -16,9 +16,9 @@ pub fn altered(t: &[u64], before: &[u64]) -> &'static str {
     }
 }
 
-// Whether every element from `from` on holds the value.
-fn is_kept<T: PartialEq>(list: &[T], from: usize, value: &T) -> bool
-    ensures { (result ≡ true) ↔ Kept (λ x. T.eq x value.now) list.now from }
+// Whether every element from `from` on is the value.
+pub fn is_filled<T: PartialEq>(list: &[T], from: usize, value: &T) -> bool
+    ensures { (result ≡ true) ↔ All (λ x. T.eq x value.now ≡ true) (drop from list.now) }
 {
     match list.get(from..) {
         Some(behind) => behind.iter().all(|x| x == value),
@@ -26,13 +26,9 @@ fn is_kept<T: PartialEq>(list: &[T], from: usize, value: &T) -> bool
     }
 }
 
-// Of a list that held the value everywhere before the call, and is a result up to `from`.
-pub fn rest<T: PartialEq>(list: &[T], from: usize, value: &T) -> &'static str {
-    if is_kept(list, from, value) {
-        "rest kept"
-    } else {
-        "REST ALTERED"
-    }
+// Of what stands behind a result.
+pub fn rest(is_kept: bool) -> &'static str {
+    if is_kept { "rest kept" } else { "REST ALTERED" }
 }
 
 pub fn yes(is_so: bool) -> &'static str {

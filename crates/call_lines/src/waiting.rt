@@ -1,10 +1,16 @@
 // The two waits, each with its line: the list and the other arguments, then the answer, the index, the ticket, and whether a
 // cell of the tables changed.
-use crate::memory::{Cells, Tables};
+use crate::memory::Tables;
+use crate::told::Told;
 use ntsync::Waited;
 use std::{fmt, io};
 
-pub const NEVER: u64 = 18446744073709551615;
+pub const NEVER: u64 = u64::MAX;
+
+// The two clocks, as the flags of a wait name them.
+pub const MONOTONIC: u32 = 0;
+
+pub const REAL_TIME: u32 = 1;
 
 // A longer list is shown by its length alone.
 const SHOWN: usize = 8;
@@ -27,7 +33,7 @@ impl fmt::Display for Handles<'_> {
     }
 }
 
-// The arguments of a wait beside its list. The flags are the clock: 0 monotonic, 1 real-time.
+// The arguments of a wait beside its list.
 #[derive(Clone, Copy)]
 pub struct Terms {
     pub owner: u32,
@@ -44,7 +50,7 @@ impl Terms {
         Self {
             owner,
             alert: 0,
-            flags: 0,
+            flags: MONOTONIC,
             pad: 0,
             timeout: NEVER,
             time: 0,
@@ -77,51 +83,26 @@ impl fmt::Display for Terms {
     }
 }
 
-// The call itself with its arguments as a case has them.
-pub fn any_on(t: &mut [u64], list: &[u32], terms: Terms) -> Waited {
-    let Terms {
-        owner,
-        alert,
-        flags,
-        pad,
-        timeout,
-        time,
-    } = terms;
-    ntsync::wait_any(t, list, owner, alert, flags, pad, timeout, time)
+// The calls themselves, for any tables.
+pub fn any_on(t: &mut [u64], list: &[u32], w: Terms) -> Waited {
+    ntsync::wait_any(t, list, w.owner, w.alert, w.flags, w.pad, w.timeout, w.time)
 }
 
-pub fn all_on(t: &mut [u64], list: &[u32], terms: Terms) -> Waited {
-    let Terms {
-        owner,
-        alert,
-        flags,
-        pad,
-        timeout,
-        time,
-    } = terms;
-    ntsync::wait_all(t, list, owner, alert, flags, pad, timeout, time)
+pub fn all_on(t: &mut [u64], list: &[u32], w: Terms) -> Waited {
+    ntsync::wait_all(t, list, w.owner, w.alert, w.flags, w.pad, w.timeout, w.time)
 }
 
 impl Tables {
-    fn waited<F: FnOnce(&mut Cells) -> Waited>(self, rt: &impl Print, call: F) -> io::Result<Self>
-        requires { F.IsAlwaysCallable call }
-    {
-        let mut cells = self.cells;
-        let r = call(&mut cells);
-        print!(rt; " {} {} {}", r.answer, r.index, r.ticket)?;
-        self.then(rt, cells)
-    }
-
     pub fn wait_any(self, rt: &impl Print, list: &[u32], terms: Terms) -> io::Result<Self> {
         let handles = Handles(list);
         print!(rt; "wait any {handles} {terms}:")?;
-        self.waited(rt, |cells| any_on(cells, list, terms))
+        self.told(rt, |cells| Told(any_on(cells, list, terms)))
     }
 
     pub fn wait_all(self, rt: &impl Print, list: &[u32], terms: Terms) -> io::Result<Self> {
         let handles = Handles(list);
         print!(rt; "wait all {handles} {terms}:")?;
-        self.waited(rt, |cells| all_on(cells, list, terms))
+        self.told(rt, |cells| Told(all_on(cells, list, terms)))
     }
 
     // ---- with no end

@@ -1,5 +1,6 @@
 // The six calls that wake, asked one after another on one line: each with its answer, the number with it and how many waits
 // were woken. The tables and the wake list may have any length.
+use crate::told::Told;
 use crate::waiting::NEVER;
 use std::io;
 
@@ -16,16 +17,16 @@ pub struct Targets {
 }
 
 pub fn ask(rt: &impl Print, t: &mut [u64], wake: &mut [u64], at: Targets) -> io::Result<()> {
-    let r = ntsync::post(t, wake, at.semaphore, 1);
-    print!(rt; " post {} {} {}", r.answer, r.previous, r.woken)?;
-    let r = ntsync::unlock(t, wake, at.mutex, OWNER);
-    print!(rt; " unlock {} {} {}", r.answer, r.previous, r.woken)?;
-    let r = ntsync::kill_owner(t, wake, at.mutex, OWNER);
-    print!(rt; " kill {} {} {}", r.answer, r.previous, r.woken)?;
-    let r = ntsync::set(t, wake, at.event);
-    print!(rt; " set {} {} {}", r.answer, r.previous, r.woken)?;
-    let r = ntsync::pulse(t, wake, at.event);
-    print!(rt; " pulse {} {} {}", r.answer, r.previous, r.woken)?;
-    let r = ntsync::expire(t, wake, at.clock, NEVER);
-    print!(rt; " expire {} {} {}", r.answer, r.previous, r.woken)
+    let told = Told(ntsync::post(t, wake, at.semaphore, 1));
+    print!(rt; " post {told}")?;
+    let told = Told(ntsync::unlock(t, wake, at.mutex, OWNER));
+    print!(rt; " unlock {told}")?;
+    let told = Told(ntsync::kill_owner(t, wake, at.mutex, OWNER));
+    print!(rt; " kill {told}")?;
+    let told = Told(ntsync::set(t, wake, at.event));
+    print!(rt; " set {told}")?;
+    let told = Told(ntsync::pulse(t, wake, at.event));
+    print!(rt; " pulse {told}")?;
+    let told = Told(ntsync::expire(t, wake, at.clock, NEVER));
+    print!(rt; " expire {told}")
 }

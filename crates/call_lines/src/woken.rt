@@ -1,7 +1,11 @@
 // The calls that wake, each with its line: the answer, the number with it, how many waits were woken, a record (ticket answer
 // index) for each, whether a cell of the tables changed, and whether the wake list behind the records was left.
+ghost use Rattle.std.specs.Prelude.{◌≡◌, true, ◌↔◌};
+ghost use Rattle.call_lines.specs.Kept.{Kept};
+
 use crate::memory::{Cells, Tables};
-use crate::verdict::{altered, rest};
+use crate::told::Told;
+use crate::verdict::{altered, is_filled, rest};
 use ntsync::Changed;
 use std::io;
 
@@ -11,6 +15,13 @@ pub type WakeList = [u64; WAKE_LENGTH];
 
 // In every cell of a wake list before the call; no ticket, answer or index here is this number.
 pub const UNTOUCHED: u64 = 777;
+
+// Whether every cell from `from` on holds UNTOUCHED.
+pub fn is_untouched(wake: &[u64], from: usize) -> bool
+    ensures { (result ≡ true) ↔ Kept 777 wake.now from }
+{
+    is_filled(wake, from, &UNTOUCHED)
+}
 
 fn records(rt: &impl Print, wake: &WakeList, woken: u32) -> io::Result<()> {
     for record in wake.chunks_exact(3).take(woken as usize) {
@@ -30,10 +41,10 @@ impl Tables {
         let mut cells = self.cells;
         let mut wake = [UNTOUCHED; WAKE_LENGTH];
         let r = call(&mut cells, &mut wake);
-        print!(rt; " {} {} {}", r.answer, r.previous, r.woken)?;
+        print!(rt; " {}", Told(r))?;
         records(rt, &wake, r.woken)?;
         let altered = altered(&cells, &self.cells);
-        let rest = rest(&wake, 3 * (r.woken as usize), &UNTOUCHED);
+        let rest = rest(is_untouched(&wake, 3 * (r.woken as usize)));
         println!(rt; " {altered} {rest}")?;
         Ok(Self { cells })
     }

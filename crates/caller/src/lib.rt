@@ -17,9 +17,5 @@ pub fn post_first(tables: &mut [u64], wake: &mut [u64], handle: u32, add: u32) -
 {
     let r = ntsync::post(tables, wake, handle, add);
     let end = 3 * (r.woken as usize);
-    let part = &mut wake[..end];
-    if part.len() == 0 {
-        return 0;
-    }
-    part[0]
+    wake[..end].first().copied().unwrap_or(0)
 }

@@ -1,13 +1,17 @@
 // Damaged tables: for each line of "Sound tables" in document 01 one cell that breaks it, or two where a second line would
 // break as well. All calls but making are asked; each must answer 9 with zeros and leave every cell, of the wake list too.
+use call_lines::memory::Cell::{Object, Wait};
+use call_lines::memory::ObjectCell::{Attribute, Count, Kind, Owner};
+use call_lines::memory::WaitCell::{Alert, Clock, Listed, Mode, Ticket, Timeout};
 use call_lines::memory::{
     Cell, Cells, ObjectCell, SPACE_LENGTH, TABLE_LENGTH, WaitCell, put, put_row,
 };
+use call_lines::told::Told;
 use call_lines::verdict::{altered, rest};
 use call_lines::waiting::{NEVER, Terms, all_on, any_on};
 use call_lines::wakes;
 use call_lines::wakes::Targets;
-use call_lines::woken::{UNTOUCHED, WAKE_LENGTH};
+use call_lines::woken::{UNTOUCHED, WAKE_LENGTH, is_untouched};
 use std::io;
 
 // The object places of the sound tables below.
@@ -38,9 +42,17 @@ const FREE: u8 = 5;
 
 const LAST: u8 = 31;
 
-const LAST_LISTED: WaitCell = WaitCell::Listed(63);
+const LAST_LISTED: WaitCell = Listed(63);
 
-const WORD32: u64 = 4294967296;
+const WORD32: u64 = 1 << 32;
+
+// A semaphore, a mutex and an event of theirs, for the calls that wake.
+const HANDLES: Targets = Targets {
+    semaphore: 1,
+    mutex: 2,
+    event: 3,
+    clock: 0,
+};
 
 // ---- the sound tables
 
@@ -53,11 +65,11 @@ fn put_objects(t: &mut Cells) {
     ntsync::create_event(t, 0, 1);
     ntsync::create_mutex(t, 0, 0);
     ntsync::create_sem(t, 0, 1);
-    put(t, Cell::Object(ABANDONED, ObjectCell::Attribute), 1);
+    put(t, Object(ABANDONED, Attribute), 1);
 }
 
 fn put_wait(t: &mut Cells, place: u8, row: &[u64]) {
-    put_row(t, Cell::Wait(place, WaitCell::Ticket), row);
+    put_row(t, Wait(place, Ticket), row);
 }
 
 // A wait for any may name a handle twice, as its alert too. The list of 64 stands before a ticket that is a handle in use,
@@ -70,51 +82,35 @@ fn sound() -> Cells {
     put_wait(&mut t, ALL, &[6, 1, 10, 1, NEVER, 2, 3, 1, 4]);
     put_wait(&mut t, SINGLE, &[7, 0, 11, 0, 0, 1, 0, 1]);
     put_wait(&mut t, LONG, &[8, 0, 12, 0, 0, 64, 0]);
-    put_row(&mut t, Cell::Wait(LONG, WaitCell::Listed(0)), &[1; 64]);
-    put_wait(&mut t, AFTER_LONG, &[1, 0, 4294967295, 0, 0, 1, 0, 1]);
+    put_row(&mut t, Wait(LONG, Listed(0)), &[1; 64]);
+    put_wait(&mut t, AFTER_LONG, &[1, 0, WORD32 - 1, 0, 0, 1, 0, 1]);
     t
 }
 
 // ---- all calls
 
 fn ask_creates(rt: &impl Print, t: &mut [u64]) -> io::Result<()> {
-    let r = ntsync::create_sem(t, 1, 1);
-    print!(rt; ": create {} {}", r.answer, r.handle)?;
-    let r = ntsync::create_mutex(t, 0, 0);
-    print!(rt; " {} {}", r.answer, r.handle)?;
-    let r = ntsync::create_event(t, 0, 0);
-    print!(rt; " {} {}", r.answer, r.handle)
+    print!(rt; ": create {}", Told(ntsync::create_sem(t, 1, 1)))?;
+    print!(rt; " {}", Told(ntsync::create_mutex(t, 0, 0)))?;
+    print!(rt; " {}", Told(ntsync::create_event(t, 0, 0)))
 }
 
 fn ask_reads(rt: &impl Print, t: &[u64]) -> io::Result<()> {
-    let r = ntsync::read_sem(t, 1);
-    print!(rt; " read {} {} {}", r.answer, r.count, r.max)?;
-    let r = ntsync::read_mutex(t, 2);
-    print!(rt; " {} {} {}", r.answer, r.owner, r.count)?;
-    let r = ntsync::read_event(t, 3);
-    print!(rt; " {} {} {}", r.answer, r.signaled, r.manual)
+    print!(rt; " read {}", Told(ntsync::read_sem(t, 1)))?;
+    print!(rt; " {}", Told(ntsync::read_mutex(t, 2)))?;
+    print!(rt; " {}", Told(ntsync::read_event(t, 3)))
 }
 
 fn ask_changes(rt: &impl Print, t: &mut [u64]) -> io::Result<()> {
-    let r = ntsync::reset(t, 3);
-    print!(rt; " reset {} {} {}", r.answer, r.previous, r.woken)?;
+    print!(rt; " reset {}", Told(ntsync::reset(t, 3)))?;
     print!(rt; " close {}", ntsync::close(t, 6))?;
     print!(rt; " cancel {}", ntsync::cancel(t, 7))
 }
 
 fn ask_waits(rt: &impl Print, t: &mut [u64]) -> io::Result<()> {
-    let r = any_on(t, &[3], Terms::of(9));
-    print!(rt; " wait {} {} {}", r.answer, r.index, r.ticket)?;
-    let r = all_on(t, &[3], Terms::of(9));
-    print!(rt; " {} {} {}", r.answer, r.index, r.ticket)
+    print!(rt; " wait {}", Told(any_on(t, &[3], Terms::of(9))))?;
+    print!(rt; " {}", Told(all_on(t, &[3], Terms::of(9))))
 }
-
-const HANDLES: Targets = Targets {
-    semaphore: 1,
-    mutex: 2,
-    event: 3,
-    clock: 0,
-};
 
 // Of any length: the right one is TABLE_LENGTH.
 fn ask<const N: usize>(rt: &impl Print, label: &str, before: [u64; N]) -> io::Result<()> {
@@ -127,7 +123,7 @@ fn ask<const N: usize>(rt: &impl Print, label: &str, before: [u64; N]) -> io::Re
     let mut wake = [UNTOUCHED; WAKE_LENGTH];
     wakes::ask(rt, &mut t, &mut wake, HANDLES)?;
     let altered = altered(&t, &before);
-    let rest = rest(&wake, 0, &UNTOUCHED);
+    let rest = rest(is_untouched(&wake, 0));
     println!(rt; " {altered} {rest}")
 }
 
@@ -138,6 +134,7 @@ fn one_cell(rt: &impl Print, label: &str, at: Cell, value: u64) -> io::Result<()
     ask(rt, label, t)
 }
 
+// kept beside `one_cell`: a line each below.
 fn object_cell(
     rt: &impl Print,
     label: &str,
@@ -145,7 +142,7 @@ fn object_cell(
     cell: ObjectCell,
     value: u64,
 ) -> io::Result<()> {
-    one_cell(rt, label, Cell::Object(place, cell), value)
+    one_cell(rt, label, Object(place, cell), value)
 }
 
 fn wait_cell(
@@ -155,54 +152,36 @@ fn wait_cell(
     cell: WaitCell,
     value: u64,
 ) -> io::Result<()> {
-    one_cell(rt, label, Cell::Wait(place, cell), value)
+    one_cell(rt, label, Wait(place, cell), value)
 }
 
 // ---- the lines of "Sound tables"
 
 fn objects(rt: &impl Print) -> io::Result<()> {
-    object_cell(rt, "object kind 4", SEMAPHORE, ObjectCell::Kind, 4)?;
-    object_cell(rt, "object kind 0", SEMAPHORE, ObjectCell::Kind, 0)?;
-    object_cell(rt, "empty place, count 1", EMPTY, ObjectCell::Count, 1)?;
-    object_cell(rt, "empty place, owner 1", EMPTY, ObjectCell::Owner, 1)?;
-    object_cell(
-        rt,
-        "empty place, attribute 1",
-        EMPTY,
-        ObjectCell::Attribute,
-        1,
-    )
+    object_cell(rt, "object kind 4", SEMAPHORE, Kind, 4)?;
+    object_cell(rt, "object kind 0", SEMAPHORE, Kind, 0)?;
+    object_cell(rt, "empty place, count 1", EMPTY, Count, 1)?;
+    object_cell(rt, "empty place, owner 1", EMPTY, Owner, 1)?;
+    object_cell(rt, "empty place, attribute 1", EMPTY, Attribute, 1)
 }
 
 fn semaphores_and_events(rt: &impl Print) -> io::Result<()> {
-    object_cell(rt, "semaphore 4 of 3", SEMAPHORE, ObjectCell::Count, 4)?;
-    object_cell(
-        rt,
-        "semaphore maximum 2^32",
-        SEMAPHORE,
-        ObjectCell::Attribute,
-        WORD32,
-    )?;
-    object_cell(rt, "semaphore maximum 0", UNNAMED, ObjectCell::Attribute, 0)?;
-    object_cell(rt, "semaphore owner 1", SEMAPHORE, ObjectCell::Owner, 1)?;
-    object_cell(rt, "event signaled 2", EVENT, ObjectCell::Count, 2)?;
-    object_cell(rt, "event manual 2", EVENT, ObjectCell::Attribute, 2)?;
-    object_cell(rt, "event owner 1", EVENT, ObjectCell::Owner, 1)
+    object_cell(rt, "semaphore 4 of 3", SEMAPHORE, Count, 4)?;
+    object_cell(rt, "semaphore maximum 2^32", SEMAPHORE, Attribute, WORD32)?;
+    object_cell(rt, "semaphore maximum 0", UNNAMED, Attribute, 0)?;
+    object_cell(rt, "semaphore owner 1", SEMAPHORE, Owner, 1)?;
+    object_cell(rt, "event signaled 2", EVENT, Count, 2)?;
+    object_cell(rt, "event manual 2", EVENT, Attribute, 2)?;
+    object_cell(rt, "event owner 1", EVENT, Owner, 1)
 }
 
 fn mutexes(rt: &impl Print) -> io::Result<()> {
-    object_cell(rt, "mutex owner 0 count 1", MUTEX, ObjectCell::Owner, 0)?;
-    object_cell(rt, "mutex owner 5 count 0", MUTEX, ObjectCell::Count, 0)?;
-    object_cell(rt, "mutex owner 2^32", MUTEX, ObjectCell::Owner, WORD32)?;
-    object_cell(rt, "mutex count 2^32", MUTEX, ObjectCell::Count, WORD32)?;
-    object_cell(
-        rt,
-        "mutex abandoned with owner",
-        MUTEX,
-        ObjectCell::Attribute,
-        1,
-    )?;
-    object_cell(rt, "mutex abandoned 2", ABANDONED, ObjectCell::Attribute, 2)
+    object_cell(rt, "mutex owner 0 count 1", MUTEX, Owner, 0)?;
+    object_cell(rt, "mutex owner 5 count 0", MUTEX, Count, 0)?;
+    object_cell(rt, "mutex owner 2^32", MUTEX, Owner, WORD32)?;
+    object_cell(rt, "mutex count 2^32", MUTEX, Count, WORD32)?;
+    object_cell(rt, "mutex abandoned with owner", MUTEX, Attribute, 1)?;
+    object_cell(rt, "mutex abandoned 2", ABANDONED, Attribute, 2)
 }
 
 // With no wait queued only the next ticket itself is wrong.
@@ -216,87 +195,57 @@ fn next_ticket(rt: &impl Print) -> io::Result<()> {
 fn tickets(rt: &impl Print) -> io::Result<()> {
     one_cell(rt, "next ticket 0", Cell::NextTicket, 0)?;
     one_cell(rt, "next ticket that of a wait", Cell::NextTicket, 8)?;
-    wait_cell(rt, "wait ticket the next", ANY, WaitCell::Ticket, 9)?;
-    wait_cell(rt, "wait ticket 2^64-1", ANY, WaitCell::Ticket, NEVER)?;
-    wait_cell(rt, "wait ticket twice", ALL, WaitCell::Ticket, 5)?;
-    wait_cell(rt, "wait ticket 0", ANY, WaitCell::Ticket, 0)
+    wait_cell(rt, "wait ticket the next", ANY, Ticket, 9)?;
+    wait_cell(rt, "wait ticket 2^64-1", ANY, Ticket, NEVER)?;
+    wait_cell(rt, "wait ticket twice", ALL, Ticket, 5)?;
+    wait_cell(rt, "wait ticket 0", ANY, Ticket, 0)
 }
 
 // With a list of zeros only the count itself can be wrong, and for any it is not.
 fn empty_list(rt: &impl Print, mode: u64, label: &str) -> io::Result<()> {
     let mut t = sound();
-    put(&mut t, Cell::Wait(SINGLE, WaitCell::Mode), mode);
-    put(&mut t, Cell::Wait(SINGLE, WaitCell::Count), 0);
-    put(&mut t, Cell::Wait(SINGLE, WaitCell::Listed(0)), 0);
+    put(&mut t, Wait(SINGLE, Mode), mode);
+    put(&mut t, Wait(SINGLE, WaitCell::Count), 0);
+    put(&mut t, Wait(SINGLE, Listed(0)), 0);
     ask(rt, label, t)
 }
 
 fn headers(rt: &impl Print) -> io::Result<()> {
     wait_cell(rt, "wait owner 0", ANY, WaitCell::Owner, 0)?;
     wait_cell(rt, "wait owner 2^32", ANY, WaitCell::Owner, WORD32)?;
-    wait_cell(rt, "wait mode 2", ANY, WaitCell::Mode, 2)?;
-    wait_cell(rt, "wait clock 2", ANY, WaitCell::Clock, 2)?;
+    wait_cell(rt, "wait mode 2", ANY, Mode, 2)?;
+    wait_cell(rt, "wait clock 2", ANY, Clock, 2)?;
     wait_cell(rt, "wait count 0", SINGLE, WaitCell::Count, 0)?;
     wait_cell(rt, "wait count 65", LONG, WaitCell::Count, 65)?;
     wait_cell(rt, "wait count 2^64-1", LONG, WaitCell::Count, NEVER)
 }
 
 fn lists(rt: &impl Print) -> io::Result<()> {
-    wait_cell(rt, "list handle 0", ANY, WaitCell::Listed(0), 0)?;
-    wait_cell(rt, "list handle 513", ANY, WaitCell::Listed(0), 513)?;
-    wait_cell(
-        rt,
-        "list handle 7, empty place",
-        ANY,
-        WaitCell::Listed(0),
-        7,
-    )?;
-    wait_cell(
-        rt,
-        "list handle 2^32+1",
-        ANY,
-        WaitCell::Listed(0),
-        4294967297,
-    )?;
+    wait_cell(rt, "list handle 0", ANY, Listed(0), 0)?;
+    wait_cell(rt, "list handle 513", ANY, Listed(0), 513)?;
+    wait_cell(rt, "list handle 7, empty place", ANY, Listed(0), 7)?;
+    wait_cell(rt, "list handle 2^32+1", ANY, Listed(0), WORD32 + 1)?;
     wait_cell(rt, "list handle 0, last of 64", LONG, LAST_LISTED, 0)?;
-    wait_cell(rt, "cell after the list 1", ANY, WaitCell::Listed(2), 1)?;
+    wait_cell(rt, "cell after the list 1", ANY, Listed(2), 1)?;
     wait_cell(rt, "last cell after the list 1", ANY, LAST_LISTED, 1)
 }
 
 fn free_places(rt: &impl Print) -> io::Result<()> {
-    wait_cell(rt, "empty wait place, mode 1", FREE, WaitCell::Mode, 1)?;
+    wait_cell(rt, "empty wait place, mode 1", FREE, Mode, 1)?;
     wait_cell(rt, "empty wait place, owner 1", FREE, WaitCell::Owner, 1)?;
-    wait_cell(
-        rt,
-        "empty wait place, timeout 1",
-        FREE,
-        WaitCell::Timeout,
-        1,
-    )?;
+    wait_cell(rt, "empty wait place, timeout 1", FREE, Timeout, 1)?;
     wait_cell(rt, "empty wait place, list end 1", FREE, LAST_LISTED, 1)?;
     wait_cell(rt, "last cell of the tables 1", LAST, LAST_LISTED, 1)
 }
 
 fn names(rt: &impl Print) -> io::Result<()> {
-    wait_cell(rt, "alert a semaphore", ANY, WaitCell::Alert, 1)?;
-    wait_cell(rt, "alert a mutex", ANY, WaitCell::Alert, 2)?;
-    wait_cell(rt, "alert 513", ANY, WaitCell::Alert, 513)?;
-    wait_cell(rt, "alert 2^32+4", ANY, WaitCell::Alert, 4294967300)?;
-    wait_cell(rt, "alert 7, empty place", ANY, WaitCell::Alert, 7)?;
-    wait_cell(
-        rt,
-        "wait for all, handle twice",
-        ALL,
-        WaitCell::Listed(1),
-        1,
-    )?;
-    wait_cell(
-        rt,
-        "wait for all, alert in list",
-        ALL,
-        WaitCell::Listed(1),
-        3,
-    )
+    wait_cell(rt, "alert a semaphore", ANY, Alert, 1)?;
+    wait_cell(rt, "alert a mutex", ANY, Alert, 2)?;
+    wait_cell(rt, "alert 513", ANY, Alert, 513)?;
+    wait_cell(rt, "alert 2^32+4", ANY, Alert, WORD32 + 4)?;
+    wait_cell(rt, "alert 7, empty place", ANY, Alert, 7)?;
+    wait_cell(rt, "wait for all, handle twice", ALL, Listed(1), 1)?;
+    wait_cell(rt, "wait for all, alert in list", ALL, Listed(1), 3)
 }
 
 pub fn cases(rt: &impl Print) -> io::Result<()> {

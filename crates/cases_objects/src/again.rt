@@ -35,9 +35,7 @@ fn reset_twice(rt: &impl Print, t: Tables) -> io::Result<Tables> {
 
 // An empty wait place holds ticket 0, which is no ticket all the same.
 fn cancelled(rt: &impl Print, t: Tables) -> io::Result<Tables> {
-    t.cancel(rt, 0)?
-        .cancel(rt, 1)?
-        .cancel(rt, 18446744073709551615)
+    t.cancel(rt, 0)?.cancel(rt, 1)?.cancel(rt, u64::MAX)
 }
 
 pub fn cases(rt: &impl Print) -> io::Result<()> {

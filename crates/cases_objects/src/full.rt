@@ -67,7 +67,7 @@ pub fn cases(rt: &impl Print) -> io::Result<()> {
     let t = in_use(rt, t)?;
     let t = no_handle(rt, t, 513)?;
     let t = no_handle(rt, t, 0)?;
-    let t = no_handle(rt, t, 4294967295)?;
+    let t = no_handle(rt, t, u32::MAX)?;
     let t = wrong_kind(rt, t)?.close(rt, 512)?;
     no_handle(rt, t, 512)?;
     Ok(())

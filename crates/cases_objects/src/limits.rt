@@ -2,7 +2,7 @@
 use call_lines::memory::Tables;
 use std::io;
 
-const MOST: u32 = 4294967295;
+const MOST: u32 = u32::MAX;
 
 fn semaphores(rt: &impl Print, t: Tables) -> io::Result<Tables> {
     t.create_semaphore(rt, 2, 1)?

@@ -1,14 +1,15 @@
 // Making: only the length is looked at.
-use call_lines::memory::{Cell, SPACE_LENGTH, TABLE_LENGTH, put};
+use call_lines::memory::{SPACE_LENGTH, TABLE_LENGTH};
 use call_lines::verdict::{altered, same, yes};
 use std::io;
 
 // The whole space is compared, so that a cell past the lent part would show too.
 fn init_first(rt: &impl Print, n: usize) -> io::Result<()> {
-    let mut space = [7; SPACE_LENGTH];
-    let answer = space.get_mut(..n).map(|part| ntsync::init(part));
-    if let Some(answer) = answer {
-        let altered = altered(&space, &[7; SPACE_LENGTH]);
+    let before = [7; SPACE_LENGTH];
+    let mut space = before;
+    if let Some(part) = space.get_mut(..n) {
+        let answer = ntsync::init(part);
+        let altered = altered(&space, &before);
         println!(rt; "init {n} cells: {answer} {altered}")?;
     }
     Ok(())
@@ -19,12 +20,10 @@ fn made(rt: &impl Print) -> io::Result<()> {
     let mut space = [7; SPACE_LENGTH];
     ntsync::init(&mut space[..TABLE_LENGTH]);
     let mut expected = [0; SPACE_LENGTH];
-    put(&mut expected, Cell::NextTicket, 1);
+    expected[0] = 1;
     expected[TABLE_LENGTH] = 7;
-    println!(rt;
-        "new tables, 7 behind them: {}",
-        yes(same(&space, &expected))
-    )
+    let is_made = yes(same(&space, &expected));
+    println!(rt; "new tables, 7 behind them: {is_made}")
 }
 
 pub fn cases(rt: &impl Print) -> io::Result<()> {

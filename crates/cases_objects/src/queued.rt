@@ -1,10 +1,11 @@
 // A queued wait, written into the cells: its ticket and cells are then known without any call. Ticket 5 waits for any of
 // handle 1, a semaphore, with handle 2, an event, as its alert.
 use call_lines::memory::{Cell, ObjectCell, Tables, WaitCell};
+use call_lines::waiting::NEVER;
 use std::io;
 
 fn queue(t: Tables) -> Tables {
-    let wait = [5, 0, 9, 0, 18446744073709551615, 1, 2, 1];
+    let wait = [5, 0, 9, 0, NEVER, 1, 2, 1];
     t.put_row(Cell::Wait(0, WaitCell::Ticket), &wait)
 }
 
@@ -41,9 +42,8 @@ fn cancelled(rt: &impl Print, t: Tables) -> io::Result<Tables> {
 
 // The last ticket is spent at 18446744073709551615; the tables are sound there.
 fn last_ticket(rt: &impl Print, t: Tables) -> io::Result<()> {
-    println!(rt; "next ticket 18446744073709551615")?;
     let t = t
-        .put(Cell::NextTicket, 18446744073709551615)
+        .put_next(rt, "next ticket", u64::MAX)?
         .create_mutex(rt, 0, 0)?
         .read_mutex(rt, 1)?;
     println!(rt; "mutex 1 abandoned")?;

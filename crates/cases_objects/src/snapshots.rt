@@ -1,8 +1,12 @@
 // The snapshot's text (document 01: the picture): its bytes, its length and the buffer behind it, and what is refused. Every
 // buffer is full of one byte before the call, so that a byte written past the text shows.
+ghost use Rattle.std.specs.Prelude.{◌≡◌, true, ◌↔◌};
+ghost use Rattle.call_lines.specs.Kept.{Kept};
+
 use call_lines::memory::{Cell, Cells, TABLE_LENGTH, Tables, put};
-use call_lines::verdict::rest;
-use call_lines::waiting::{NEVER, Terms};
+use call_lines::verdict::{is_filled, rest};
+use call_lines::waiting::{MONOTONIC, NEVER, REAL_TIME, Terms};
+use ntsync::Written;
 use std::io;
 use std::io::Write;
 
@@ -13,20 +17,22 @@ const BUFFER_LENGTH: usize = 65536;
 const SENTINEL: u8 = b'#';
 
 // The largest owner and count.
-const CEILING: u32 = 4294967295;
+const CEILING: u32 = u32::MAX;
 
 // ---- the call and its line
 
+// Whether every byte from `from` on is the sentinel.
+fn is_kept(buffer: &[u8], from: usize) -> bool
+    ensures { (result ≡ true) ↔ Kept 35 buffer.now from }
+{
+    is_filled(buffer, from, &SENTINEL)
+}
+
 // The buffer's length, the answer and the text's length, which is handed back.
 fn snapshot(rt: &impl Print, t: &[u64], buffer: &mut [u8]) -> io::Result<usize> {
-    let r = ntsync::snapshot(t, buffer);
-    print!(rt;
-        "snapshot into {} bytes: {} {}",
-        buffer.len(),
-        r.answer,
-        r.length
-    )?;
-    Ok(r.length as usize)
+    let Written { answer, length } = ntsync::snapshot(t, buffer);
+    print!(rt; "snapshot into {} bytes: {answer} {length}", buffer.len())?;
+    Ok(length as usize)
 }
 
 // With the text itself, each of its lines a line of the output. A length past the buffer's end would show no text.
@@ -35,19 +41,13 @@ fn shown(rt: &impl Print, t: Tables) -> io::Result<()> {
     let length = snapshot(rt, &t.cells, &mut buffer)?;
     println!(rt)?;
     io::writer(rt).write_all(buffer.get(..length).unwrap_or(&[]))?;
-    println!(rt; "behind the text: {}", rest(&buffer, length, &SENTINEL))
+    println!(rt; "behind the text: {}", rest(is_kept(&buffer, length)))
 }
 
 // Without the text. After a refusal the length is 0, so that the whole buffer is looked at.
 fn measured(rt: &impl Print, t: &[u64], buffer: &mut [u8]) -> io::Result<()> {
     let length = snapshot(rt, t, buffer)?;
-    println!(rt; " {}", rest(buffer, length, &SENTINEL))
-}
-
-// Writes the first cell, because no program makes so many calls.
-fn put_next(rt: &impl Print, t: Tables, ticket: u64) -> io::Result<Tables> {
-    println!(rt; "next ticket {ticket}")?;
-    Ok(t.put(Cell::NextTicket, ticket))
+    println!(rt; " {}", rest(is_kept(buffer, length)))
 }
 
 // ---- texts
@@ -72,8 +72,8 @@ fn objects(rt: &impl Print) -> io::Result<Tables> {
 
 // Freed places are taken again: in the order of places stand the tickets 6, 2, 7, none, 5.
 fn queued(rt: &impl Print, t: Tables) -> io::Result<Tables> {
-    let real_time = Terms::of(10).until(1, 100, 99).alerted(5);
-    let ceiling = Terms::of(CEILING).until(0, 1, 0).alerted(5);
+    let real_time = Terms::of(10).until(REAL_TIME, 100, 99).alerted(5);
+    let ceiling = Terms::of(CEILING).until(MONOTONIC, 1, 0).alerted(5);
     t.any(rt, &[1], 9)?
         .wait_any(rt, &[5, 4, 5], real_time)?
         .all(rt, &[2, 1], 11)?
@@ -82,7 +82,7 @@ fn queued(rt: &impl Print, t: Tables) -> io::Result<Tables> {
         .cancel(rt, 1)?
         .all(rt, &[4], 13)?
         .cancel(rt, 3)?
-        .wait_any(rt, &[5], Terms::of(1).until(1, NEVER - 1, 0))?
+        .wait_any(rt, &[5], Terms::of(1).until(REAL_TIME, NEVER - 1, 0))?
         .cancel(rt, 4)
 }
 
@@ -106,7 +106,7 @@ fn into_longer(rt: &impl Print, t: &Cells) -> io::Result<()> {
 
 // Damage is answered before a short buffer.
 fn of_corrupt(rt: &impl Print) -> io::Result<()> {
-    let t = put_next(rt, Tables::new(), 0)?;
+    let t = Tables::new().put_next(rt, "next ticket", 0)?;
     into_shorter(rt, &t.cells)?;
     measured(rt, &t.cells, &mut [SENTINEL; BUFFER_LENGTH])?;
     into_longer(rt, &t.cells)
@@ -142,9 +142,11 @@ fn full_mutexes(rt: &impl Print) -> io::Result<Tables> {
 // Every number has as many digits as it can have; the event of handle 512 is every wait's alert and all of its list. The waits
 // spend the last 32 tickets.
 fn longest_text(rt: &impl Print) -> io::Result<Tables> {
-    let t = full_mutexes(rt)?.create_event(rt, 0, 0)?;
     let terms = Terms::of(CEILING).alerted(512);
-    put_next(rt, t, NEVER - 32)?.queue_many(rt, &[512; 64], terms)
+    full_mutexes(rt)?
+        .create_event(rt, 0, 0)?
+        .put_next(rt, "next ticket", NEVER - 32)?
+        .queue_many(rt, &[512; 64], terms)
 }
 
 // 54,549 bytes, which as the length of a buffer are too few.

@@ -1,8 +1,8 @@
 // The calls that hand back the filled front of the caller's own wake list.
 use call_lines::memory::{Cells, Tables};
 use call_lines::verdict::{altered, rest};
-use call_lines::waiting::Terms;
-use call_lines::woken::UNTOUCHED;
+use call_lines::waiting::{REAL_TIME, Terms};
+use call_lines::woken::{UNTOUCHED, is_untouched};
 use std::io;
 
 // Longer than a wake list has to be.
@@ -18,59 +18,60 @@ fn cells(rt: &impl Print, front: &[u64]) -> io::Result<()> {
     Ok(())
 }
 
-// The length of the front, which is where the rest of the list begins.
-fn handed(rt: &impl Print, front: &mut [u64], res: &[u64; 3]) -> io::Result<usize> {
-    cells(rt, res)?;
-    print!(rt; ", front of {} cells:", front.len())?;
+// Ends the line of a call on this wake list: the three numbers, the front's length and cells, the list's first cell
+// after the mark, the tables and the rest of the list.
+fn handed<F>(rt: &impl Print, t: Tables, wake: &mut [u64], call: F) -> io::Result<Tables>
+where
+    F: for<'a> FnOnce(&mut Cells, &'a mut [u64], &mut [u64; 3]) -> &'a mut [u64],
+    requires { F.IsAlwaysCallable call }
+{
+    let mut after = t.cells;
+    let mut result = [UNTOUCHED; 3];
+    let front = call(&mut after, wake, &mut result);
+    let from = front.len();
+    cells(rt, &result)?;
+    print!(rt; ", front of {from} cells:")?;
     cells(rt, front)?;
     if let Some(first) = front.first_mut() {
         *first = MARK;
     }
-    Ok(front.len())
-}
-
-// Ends a line with the list's first cell after the mark, the tables and the rest of the list.
-fn ended(
-    rt: &impl Print,
-    t: Tables,
-    after: Cells,
-    wake: &[u64],
-    from: usize,
-) -> io::Result<Tables> {
     let first = wake.first().copied().unwrap_or(0);
     let altered = altered(&after, &t.cells);
-    let rest = rest(wake, from, &UNTOUCHED);
+    let rest = rest(is_untouched(wake, from));
     println!(rt; "; first cell of the list {first} {altered} {rest}")?;
     Ok(Tables { cells: after })
 }
 
 fn post(rt: &impl Print, t: Tables, handle: u32, add: u32) -> io::Result<Tables> {
     print!(rt; "post_woken {handle} add {add}:")?;
-    let mut after = t.cells;
-    let mut wake = [UNTOUCHED; LIST_LENGTH];
-    let mut result = [UNTOUCHED; 3];
-    let front = ntsync::post_woken(&mut after, &mut wake, &mut result, handle, add);
-    let from = handed(rt, front, &result)?;
-    ended(rt, t, after, &wake, from)
+    let wake = &mut [UNTOUCHED; LIST_LENGTH];
+    handed(
+        rt,
+        t,
+        wake,
+        |t, wake, res| ntsync::post_woken(t, wake, res, handle, add),
+    )
 }
 
 fn expire(rt: &impl Print, t: Tables, clock: u32, time: u64) -> io::Result<Tables> {
     print!(rt; "expire_woken clock {clock} time {time}:")?;
-    let mut after = t.cells;
-    let mut wake = [UNTOUCHED; LIST_LENGTH];
-    let mut result = [UNTOUCHED; 3];
-    let front = ntsync::expire_woken(&mut after, &mut wake, &mut result, clock, time);
-    let from = handed(rt, front, &result)?;
-    ended(rt, t, after, &wake, from)
+    let wake = &mut [UNTOUCHED; LIST_LENGTH];
+    handed(
+        rt,
+        t,
+        wake,
+        |t, wake, res| ntsync::expire_woken(t, wake, res, clock, time),
+    )
 }
 
 fn set(rt: &impl Print, t: Tables, wake: &mut [u64], handle: u32) -> io::Result<Tables> {
     print!(rt; "set_woken {handle}:")?;
-    let mut after = t.cells;
-    let mut result = [UNTOUCHED; 3];
-    let front = ntsync::set_woken(&mut after, wake, &mut result, handle);
-    let from = handed(rt, front, &result)?;
-    ended(rt, t, after, wake, from)
+    handed(
+        rt,
+        t,
+        wake,
+        |t, wake, res| ntsync::set_woken(t, wake, res, handle),
+    )
 }
 
 fn queued(rt: &impl Print) -> io::Result<Tables> {
@@ -79,7 +80,7 @@ fn queued(rt: &impl Print) -> io::Result<Tables> {
         .create_event(rt, 0, 0)?
         .any(rt, &[1], 7)?
         .all(rt, &[1], 8)?
-        .wait_any(rt, &[2], Terms::of(9).until(1, 50, 0))
+        .wait_any(rt, &[2], Terms::of(9).until(REAL_TIME, 50, 0))
 }
 
 // After a refusal the front is empty: the mark is not in the list.

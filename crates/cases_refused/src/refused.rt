@@ -4,10 +4,10 @@ use call_lines::verdict::{altered, rest};
 use call_lines::waiting::{NEVER, Terms};
 use call_lines::wakes;
 use call_lines::wakes::Targets;
-use call_lines::woken::UNTOUCHED;
+use call_lines::woken::{UNTOUCHED, is_untouched};
 use std::io;
 
-const MOST: u32 = 4294967295;
+const MOST: u32 = u32::MAX;
 
 // Handles: 1 unset auto event, 2 mutex of owner 5, 3 set manual event, 4 semaphore; place 5 is empty.
 fn objects(rt: &impl Print) -> io::Result<Tables> {
@@ -29,24 +29,18 @@ fn lengths(rt: &impl Print, t: Tables) -> io::Result<Tables> {
     both_of(rt, t, &[3; 3000])
 }
 
-fn both(rt: &impl Print, t: Tables, handle: u32) -> io::Result<Tables> {
-    both_of(rt, t, &[handle])
-}
+// No handle, no place, and an empty place.
+const BAD_HANDLES: [u32; 4] = [0, 513, MOST, 5];
 
 // A bad handle is refused behind a signaled object too.
-fn both_behind(rt: &impl Print, t: Tables, handle: u32) -> io::Result<Tables> {
-    both_of(rt, t, &[3, handle])
-}
-
-fn handles(rt: &impl Print, t: Tables) -> io::Result<Tables> {
-    let t = both(rt, t, 0)?;
-    let t = both(rt, t, 513)?;
-    let t = both(rt, t, MOST)?;
-    let t = both(rt, t, 5)?;
-    let t = both_behind(rt, t, 0)?;
-    let t = both_behind(rt, t, 513)?;
-    let t = both_behind(rt, t, MOST)?;
-    both_behind(rt, t, 5)
+fn handles(rt: &impl Print, mut t: Tables) -> io::Result<Tables> {
+    for handle in BAD_HANDLES {
+        t = both_of(rt, t, &[handle])?;
+    }
+    for handle in BAD_HANDLES {
+        t = both_of(rt, t, &[3, handle])?;
+    }
+    Ok(t)
 }
 
 // The set manual event in the list would serve each of these waits at once.
@@ -54,43 +48,28 @@ fn with(rt: &impl Print, t: Tables, terms: Terms) -> io::Result<Tables> {
     t.wait_any(rt, &[3], terms)?.wait_all(rt, &[3], terms)
 }
 
-fn with_alert(rt: &impl Print, t: Tables, alert: u32) -> io::Result<Tables> {
-    let terms = Terms::of(7).alerted(alert);
-    with(rt, t, terms)
+// A semaphore, a mutex, no event, and at last an event.
+fn alerts(rt: &impl Print, mut t: Tables) -> io::Result<Tables> {
+    for alert in [4, 2, 513, 5, MOST, 1] {
+        t = with(rt, t, Terms::of(7).alerted(alert))?;
+    }
+    Ok(t)
 }
 
-fn alerts(rt: &impl Print, t: Tables) -> io::Result<Tables> {
-    let t = with_alert(rt, t, 4)?;
-    let t = with_alert(rt, t, 2)?;
-    let t = with_alert(rt, t, 513)?;
-    let t = with_alert(rt, t, 5)?;
-    let t = with_alert(rt, t, MOST)?;
-    with_alert(rt, t, 1)
-}
-
-fn with_numbers(
-    rt: &impl Print,
-    t: Tables,
-    owner: u32,
-    flags: u32,
-    pad: u32,
-) -> io::Result<Tables> {
-    let terms = Terms {
-        flags,
-        pad,
-        ..Terms::of(owner)
+fn numbers(rt: &impl Print, mut t: Tables) -> io::Result<Tables> {
+    let terms = Terms::of(7);
+    for flags in [2, 3, MOST] {
+        t = with(rt, t, Terms { flags, ..terms })?;
+    }
+    for pad in [1, MOST] {
+        t = with(rt, t, Terms { pad, ..terms })?;
+    }
+    let t = with(rt, t, Terms::of(0))?;
+    let real_time = Terms {
+        flags: 1,
+        ..Terms::of(MOST)
     };
-    with(rt, t, terms)
-}
-
-fn numbers(rt: &impl Print, t: Tables) -> io::Result<Tables> {
-    let t = with_numbers(rt, t, 7, 2, 0)?;
-    let t = with_numbers(rt, t, 7, 3, 0)?;
-    let t = with_numbers(rt, t, 7, MOST, 0)?;
-    let t = with_numbers(rt, t, 7, 0, 1)?;
-    let t = with_numbers(rt, t, 7, 0, MOST)?;
-    let t = with_numbers(rt, t, 0, 0, 0)?;
-    with_numbers(rt, t, MOST, 1, 0)
+    with(rt, t, real_time)
 }
 
 // For all a handle stands once, the alert counted; for any it may stand again.
@@ -116,9 +95,9 @@ fn before_room(rt: &impl Print) -> io::Result<()> {
         .any(rt, &[1], 0)?
         .wait_any(rt, &[1], Terms::of(7).until(2, 5, 5))?
         .any(rt, &[1], 7)?
-        .put_next(rt, NEVER)?
+        .put_next(rt, "next ticket written:", NEVER)?
         .any(rt, &[513], 7)?
-        .put_next(rt, 0)?
+        .put_next(rt, "next ticket written:", 0)?
         .any(rt, &[513], 7)?
         .all(rt, &[1], 7)?;
     Ok(())
@@ -138,17 +117,18 @@ pub fn waits(rt: &impl Print) -> io::Result<()> {
 
 // Nobody is queued, so that no list receives a record.
 fn ask(rt: &impl Print, t: Tables, wake: &mut [u64], at: Targets) -> io::Result<Tables> {
-    print!(rt;
-        "wake list of {}, handles {} {}",
-        wake.len(),
-        at.semaphore,
-        at.mutex
-    )?;
-    print!(rt; " {}, clock {}:", at.event, at.clock)?;
+    let length = wake.len();
+    let Targets {
+        semaphore,
+        mutex,
+        event,
+        clock,
+    } = at;
+    print!(rt; "wake list of {length}, handles {semaphore} {mutex} {event}, clock {clock}:")?;
     let mut cells = t.cells;
     wakes::ask(rt, &mut cells, wake, at)?;
     let altered = altered(&cells, &t.cells);
-    let rest = rest(wake, 0, &UNTOUCHED);
+    let rest = rest(is_untouched(wake, 0));
     println!(rt; " {altered} {rest}")?;
     Ok(Tables { cells })
 }
@@ -182,7 +162,7 @@ fn ask_lists(rt: &impl Print, t: Tables) -> io::Result<Tables> {
 
 pub fn wake_lists(rt: &impl Print) -> io::Result<()> {
     println!(rt; "-- short wake lists")?;
-    let t = ask_lists(rt, objects(rt)?)?.put_next(rt, 0)?;
+    let t = ask_lists(rt, objects(rt)?)?.put_next(rt, "next ticket written:", 0)?;
     ask_lists(rt, t)?;
     Ok(())
 }
@@ -257,10 +237,9 @@ pub fn changes(rt: &impl Print) -> io::Result<()> {
     let t = no_owner(rt, t)?;
     let t = abandoned(rt, t)?;
     let t = maximum(rt, t)?;
-    let t = wrong_kind(rt, t)?;
-    let t = no_object(rt, t, 0)?;
-    let t = no_object(rt, t, 513)?;
-    let t = no_object(rt, t, MOST)?;
-    no_object(rt, t, 5)?;
+    let mut t = wrong_kind(rt, t)?;
+    for handle in BAD_HANDLES {
+        t = no_object(rt, t, handle)?;
+    }
     Ok(())
 }

@@ -3,6 +3,7 @@
 #![tactic(auto)]
 
 use call_lines::memory::{Cell, Cells, ObjectCell, TABLE_LENGTH, Tables};
+use call_lines::told::Told;
 use call_lines::verdict::{altered, same, yes};
 use std::io;
 
@@ -23,10 +24,8 @@ fn written<'a>(cells: &Cells, buffer: &'a mut Buffer) -> &'a [u8] {
 
 // The text's length, the answer and the offset; whether a cell changed.
 fn read(rt: &impl Print, t: Tables, text: &[u8]) -> io::Result<Tables> {
-    let mut cells = t.cells;
-    let r = ntsync::restore(&mut cells, text);
-    print!(rt; "restore bytes {}: {} {}", text.len(), r.answer, r.offset)?;
-    t.then(rt, cells)
+    print!(rt; "restore bytes {}:", text.len())?;
+    t.told(rt, |cells| Told(ntsync::restore(cells, text)))
 }
 
 // A copy of the text with one byte changed.
@@ -96,21 +95,28 @@ fn cut(rt: &impl Print, t: Tables) -> io::Result<()> {
     Ok(())
 }
 
+// A byte of a number, or of the words about it.
+const CHANGES: [(usize, u8); 12] = [
+    (5, b'0'),
+    (15, b'3'),
+    (15, b'1'),
+    (24, b'0'),
+    (41, b'3'),
+    (47, b'9'),
+    (78, b'2'),
+    (87, b'0'),
+    (109, b'x'),
+    (140, b'2'),
+    (193, b'1'),
+    (194, b' '),
+];
+
 fn changed(rt: &impl Print, t: Tables) -> io::Result<()> {
     let mut buffer = EMPTY;
     let text = written(&t.cells, &mut buffer);
-    read_changed(rt, t, text, 5, b'0')?;
-    read_changed(rt, t, text, 15, b'3')?;
-    read_changed(rt, t, text, 15, b'1')?;
-    read_changed(rt, t, text, 24, b'0')?;
-    read_changed(rt, t, text, 41, b'3')?;
-    read_changed(rt, t, text, 47, b'9')?;
-    read_changed(rt, t, text, 78, b'2')?;
-    read_changed(rt, t, text, 87, b'0')?;
-    read_changed(rt, t, text, 109, b'x')?;
-    read_changed(rt, t, text, 140, b'2')?;
-    read_changed(rt, t, text, 193, b'1')?;
-    read_changed(rt, t, text, 194, b' ')?;
+    for (at, byte) in CHANGES {
+        read_changed(rt, t, text, at, byte)?;
+    }
     Ok(())
 }
 
@@ -143,9 +149,9 @@ fn no_maximum(rt: &impl Print) -> io::Result<()> {
 fn short_tables(rt: &impl Print) -> io::Result<()> {
     let before = [7; TABLE_LENGTH - 1];
     let mut t = before;
-    let r = ntsync::restore(&mut t, &EMPTY);
+    let told = Told(ntsync::restore(&mut t, &EMPTY));
     let altered = altered(&t, &before);
-    println!(rt; "one cell short: {} {} {altered}", r.answer, r.offset)
+    println!(rt; "one cell short: {told} {altered}")
 }
 
 pub fn cases(rt: &impl Print) -> io::Result<()> {

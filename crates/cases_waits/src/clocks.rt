@@ -1,14 +1,10 @@
 // The two clocks: which waits expire, and in what order they are told.
 use call_lines::memory::{Cell, Tables, WaitCell};
-use call_lines::waiting::{NEVER, Terms};
+use call_lines::waiting::{MONOTONIC, NEVER, REAL_TIME, Terms};
 use std::io;
 
-const MONOTONIC: u32 = 0;
-
-const REAL_TIME: u32 = 1;
-
 // The last time that is not "never".
-const LAST_TIME: u64 = 18446744073709551614;
+const LAST_TIME: u64 = NEVER - 1;
 
 // An event that is not signaled, for which all waits of this file wait.
 fn unsignaled(rt: &impl Print) -> io::Result<Tables> {
@@ -86,7 +82,7 @@ fn other_clocks(rt: &impl Print) -> io::Result<()> {
         .wait_any(rt, &[1], Terms::of(7).until(MONOTONIC, 30, 0))?
         .wait_any(rt, &[1], Terms::of(7).until(REAL_TIME, 30, 0))?
         .expire(rt, 2, 100)?
-        .expire(rt, 4294967295, 100)?
+        .expire(rt, u32::MAX, 100)?
         .expire(rt, MONOTONIC, 100)?
         .expire(rt, REAL_TIME, 100)?;
     Ok(())

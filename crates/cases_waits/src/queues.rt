@@ -1,6 +1,6 @@
 // The limits of the queue: 32 waits, 64 handles in a list, handle 512, the last ticket.
 use call_lines::memory::{Cell, Cells, Tables};
-use call_lines::waiting::{NEVER, Terms};
+use call_lines::waiting::{MONOTONIC, NEVER, Terms};
 use call_lines::woken::WAKE_LENGTH;
 use std::io;
 
@@ -35,7 +35,7 @@ fn posted(rt: &impl Print, t: Tables, n: u32) -> io::Result<Tables> {
 fn at_full_queue(rt: &impl Print, t: Tables) -> io::Result<Tables> {
     t.any(rt, &[1], 7)?
         .all(rt, &[1, 2], 7)?
-        .wait_any(rt, &[1], Terms::of(7).until(0, 5, 5))?
+        .wait_any(rt, &[1], Terms::of(7).until(MONOTONIC, 5, 5))?
         .any(rt, &[1, 2], 7)?
         .any(rt, &[2], 7)?
         .wait_any(rt, &[1], Terms::of(7).alerted(3))?
@@ -143,7 +143,7 @@ fn next(rt: &impl Print, t: Tables) -> io::Result<Tables> {
 fn no_ticket(rt: &impl Print, t: Tables) -> io::Result<Tables> {
     t.any(rt, &[1], 8)?
         .all(rt, &[1, 2], 8)?
-        .wait_any(rt, &[1], Terms::of(8).until(0, 5, 5))?
+        .wait_any(rt, &[1], Terms::of(8).until(MONOTONIC, 5, 5))?
         .any(rt, &[1, 2], 8)?
         .read_semaphore(rt, 2)
 }
@@ -153,7 +153,7 @@ fn last_ticket(rt: &impl Print) -> io::Result<()> {
     let t = Tables::new()
         .create_event(rt, 0, 1)?
         .create_semaphore(rt, 1, 1)?
-        .put_next(rt, NEVER - 1)?
+        .put_next(rt, "next ticket written:", NEVER - 1)?
         .any(rt, &[1], 7)?;
     let t = next(rt, t)?;
     let t = no_ticket(rt, t)?.set(rt, 1)?.any(rt, &[2], 8)?;
@@ -166,7 +166,7 @@ fn full_and_spent(rt: &impl Print) -> io::Result<()> {
     Tables::new()
         .create_event(rt, 0, 1)?
         .fill_queue(rt)?
-        .put_next(rt, NEVER)?
+        .put_next(rt, "next ticket written:", NEVER)?
         .any(rt, &[1], 7)?
         .cancel(rt, 5)?
         .any(rt, &[1], 7)?;

@@ -1,9 +1,9 @@
 // The bench readings P1 to P12 of document 01, each on newly made tables. The objects are read at the end.
 use call_lines::memory::Tables;
-use call_lines::waiting::{NEVER, Terms};
+use call_lines::waiting::{MONOTONIC, NEVER, Terms};
 use std::io;
 
-const MOST: u32 = 4294967295;
+const MOST: u32 = u32::MAX;
 
 fn reading(rt: &impl Print, number: u32) -> io::Result<Tables> {
     println!(rt; "P{number}")?;
@@ -83,12 +83,12 @@ fn listed_as_alert(rt: &impl Print) -> io::Result<()> {
 fn timeouts(rt: &impl Print) -> io::Result<()> {
     reading(rt, 11)?
         .create_event(rt, 0, 0)?
-        .wait_any(rt, &[1], Terms::of(7).until(0, 100, 100))?
-        .wait_any(rt, &[1], Terms::of(7).until(0, 101, 100))?
+        .wait_any(rt, &[1], Terms::of(7).until(MONOTONIC, 100, 100))?
+        .wait_any(rt, &[1], Terms::of(7).until(MONOTONIC, 101, 100))?
         .read_event(rt, 1)?;
     reading(rt, 12)?
         .create_event(rt, 0, 0)?
-        .wait_any(rt, &[1], Terms::of(7).until(0, NEVER, NEVER))?
+        .wait_any(rt, &[1], Terms::of(7).until(MONOTONIC, NEVER, NEVER))?
         .read_event(rt, 1)?;
     Ok(())
 }

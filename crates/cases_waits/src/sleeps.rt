@@ -1,9 +1,7 @@
 // Waits for any of no objects: the alert, the time or a cancel ends them. For all they are refused.
 use call_lines::memory::Tables;
-use call_lines::waiting::{NEVER, Terms};
+use call_lines::waiting::{MONOTONIC, NEVER, Terms};
 use std::io;
-
-const MONOTONIC: u32 = 0;
 
 fn sleep(rt: &impl Print, t: Tables, alert: u32, timeout: u64, time: u64) -> io::Result<Tables> {
     let terms = Terms::of(7).until(MONOTONIC, timeout, time).alerted(alert);
