@@ -6,8 +6,6 @@ ghost use Rattle.ntsync_guard.specs.Values.{FoundSound};
 use kinds::Refusal;
 use validity::Sound;
 
-pub const CORRUPT: u32 = 9;
-
 // A record for every wait place.
 pub const WAKE_LENGTH: usize = 3 * tables::WAIT_PLACES;
 
