@@ -13,11 +13,8 @@ pub const WAKE_LENGTH: usize = 3 * tables::WAIT_PLACES;
 pub fn sound(tables: &[u64]) -> Result<Sound, Refusal>
     ensures { FoundSound tables.now result }
 {
-    let Some(cells) = tables.as_array() else {
-        return Err(Refusal::Corrupt);
-    };
-    if !validity::valid(cells) {
-        return Err(Refusal::Corrupt);
+    match tables.as_array() {
+        Some(cells) if validity::valid(cells) => Ok(Sound { cells }),
+        _ => Err(Refusal::Corrupt),
     }
-    Ok(Sound { cells })
 }
