@@ -21,7 +21,7 @@ pub struct Object {
     pub attribute: u64,
 }
 
-// The next state, and whether the object had been abandoned.
+// The next state, and whether the object had been abandoned: neither says whether the other is there.
 #[derive(Clone, Copy, Debug, PartialEq, Eq)]
 pub struct Acquired {
     pub next: Object,

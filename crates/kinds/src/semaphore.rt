@@ -25,6 +25,7 @@ impl Semaphore {
         (count <= max) & (max <= Semaphore::MAX_COUNT) & (Semaphore::LOWEST_MAX <= max)
     }
 
+    // kept: a `create` for each kind, since the numbers stand in other cells and have other limits.
     pub fn create(count: u32, max: u32) -> Result<Object, Refusal>
         ensures { changed_by no_fields result ≡ creation a_semaphore count max }
     {

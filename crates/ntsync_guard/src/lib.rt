@@ -6,8 +6,6 @@ ghost use Rattle.ntsync_guard.specs.Values.{FoundSound};
 use kinds::Refusal;
 use validity::Sound;
 
-pub const CORRUPT: u32 = 9;
-
 // A record for every wait place.
 pub const WAKE_LENGTH: usize = 3 * tables::WAIT_PLACES;
 
@@ -15,11 +13,8 @@ pub const WAKE_LENGTH: usize = 3 * tables::WAIT_PLACES;
 pub fn sound(tables: &[u64]) -> Result<Sound, Refusal>
     ensures { FoundSound tables.now result }
 {
-    let Some(cells) = tables.as_array() else {
-        return Err(Refusal::Corrupt);
-    };
-    if !validity::valid(cells) {
-        return Err(Refusal::Corrupt);
+    match tables.as_array() {
+        Some(cells) if validity::valid(cells) => Ok(Sound { cells }),
+        _ => Err(Refusal::Corrupt),
     }
-    Ok(Sound { cells })
 }
