@@ -1,10 +1,10 @@
 -- One text after another; how many digits a number has, and each of them from the last one on.
-use Prim.Native.Nat.{ℕ, suc, ◌+◌, ◌/◌, ◌%◌, ◌^◌, ◌≤◌, ◌<◌}
+use Prim.Native.Nat.{ℕ, zero, suc, ◌+◌, ◌*◌, ◌/◌, ◌%◌, ◌^◌, ◌≤◌, ◌<◌}
 use mathlib.Core.Path.{◌≡◌, refl, sym, ap, ◌∙◌}
 use mathlib.Core.Bool.{cond}
 use mathlib.Core.List.{List, [], ◌∷◌, ◌++◌, append_assoc}
 use native.Mathlib.Omega.{arith}
-use native.Mathlib.Nat.{add-zero}
+use native.Mathlib.Nat.{add-zero, pow-suc}
 use lib.Dec.{ltb}
 use lib.ListN.{length, set, take, drop, length-append}
 use Rattle.std.proofs.Common.{drop-drop}
@@ -63,6 +63,16 @@ below n h = let a : 2 ^ 64 ≡ 18446744073709551616 = refl in let b : 10 ^ 20 �
 
 pub count_more : (n : ℕ) → 10 ≤ n → n < 2 ^ 64 → length (digits_up_to 19 n) ≡ suc (length (digits_up_to 19 (n / 10)))
 count_more n l h = let e = length-append (digits_up_to 19 (n / 10)) ((48 + n % 10) ∷ []) in ap length (digits_more n l (below n h)) ∙ omega arith
+
+pow_some : (k : ℕ) → 1 ≤ 10 ^ k
+pow_some zero = omega arith
+pow_some (suc k) = let p : 10 ^ suc k ≡ 10 ^ k * 10 = pow-suc 10 k in let h = pow_some k in omega arith
+
+-- one digit more than the power of ten that a number reaches
+pub count_is : (k n : ℕ) → 10 ^ k ≤ n → n < 10 * 10 ^ k → n < 2 ^ 64 → length (digits_up_to 19 n) ≡ k + 1
+count_is zero n l h w = count_one n (let e : 10 ^ 0 ≡ 1 = refl in omega arith)
+count_is (suc k) n l h w = let p : 10 ^ suc k ≡ 10 ^ k * 10 = pow-suc 10 k in let s = pow_some k in
+    count_more n (omega arith) w ∙ (let e = count_is k (n / 10) (omega arith) (omega arith) (omega arith) in omega arith)
 
 pub count_some : (n : ℕ) → 1 ≤ length (digits_up_to 19 n)
 unfolding digits_up_to

@@ -38,7 +38,7 @@ impl<'a> Writer<'a> {
         self.at = end;
     }
 
-    fn number(&mut self, n: u64)
+    pub fn number(&mut self, n: u64)
         requires { HasRoom self.old (digits_up_to 19 n) }
         ensures { Appended self.old self.new (digits_up_to 19 n) }
     {
@@ -60,13 +60,7 @@ impl<'a> Writer<'a> {
 fn digit_count(n: u64) -> usize
     ensures { result ≡ length (digits_up_to 19 n) }
 {
-    let mut count: usize = 1;
-    let mut front = n;
-    while 10 <= front {
-        front = front / 10;
-        count += 1;
-    }
-    count
+    if n == 0 { 1 } else { n.ilog10() as usize + 1 }
 }
 
 // The digits of n with no leading zeros, from the last one on, each straight to its place.

@@ -81,6 +81,8 @@ pub struct Record {
 }
 
 // Record k of a wake list.
+// kept: here, in `walk` and in `signals` a wake list is a slice, and its least length a clause: lists may be longer, so it is no
+// array, and a struct around it would bring three clauses (whose list, what is told, how many) in place of the one.
 pub fn put_record(wake: &mut [u64], k: usize, r: Record)
     requires { (k < wait_places) × (wake_length ≤ length wake.old) }
     ensures { wake.new ≡ put_record wake.old k r.ticket r.answer r.index }

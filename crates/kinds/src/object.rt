@@ -11,7 +11,7 @@ use crate::refusal::Refusal;
 // An object as its four cells hold it: what a kind has no use for is 0.
 #[derive(Clone, Copy, Debug, PartialEq, Eq)]
 pub struct Object {
-    // the number of its kind; 0 at an empty place. A number and no `Kind`, since a damaged cell can hold any
+    // the number of its kind; 0 at an empty place. kept: a number and no `Kind`, since a damaged cell can hold any
     pub kind: u64,
     // a semaphore's count, a mutex's recursion count, 1 for a set event
     pub count: u64,

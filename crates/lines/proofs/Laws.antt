@@ -6,7 +6,7 @@ use lib.Dec.{leb-zero}
 use borrow.Author.Tests.{lt-leb, eqb-true, eqb-false}
 use Rattle.std.specs.Cmp.Lexicographic.{pointwise}
 use Rattle.model.specs.Basics.{bit}
-use Rattle.model.specs.Snapshot.{ascii, line}
+use Rattle.model.specs.Snapshot.{ascii}
 use Rattle.model.specs.Reading.{Read, good, bad, by_read, Reader, ◌>>=◌, give, times, after, leading, number_line, word_line}
 use Rattle.model.proofs.Logic.{by_bool, by_option, differ, clash, and_split, eqb_same}
 use Rattle.model.proofs.Digits.{digits, digits_one, digits_more}

@@ -1,7 +1,7 @@
 // The lines of a lent text, read one after another. This crate knows no tables.
 #![tactic(auto)]
 
-ghost use Rattle.std.specs.Prelude.{◌≡◌, ◌+◌, ◌*◌, ◌<◌, ◌≤◌, [], length, drop, Some, None, MatchOption, MatchBool};
+ghost use Rattle.std.specs.Prelude.{◌≡◌, ◌+◌, ◌*◌, ◌<◌, ◌≤◌, [], drop, Some, None, MatchOption, MatchBool};
 ghost use Rattle.std.proofs.Math.Option.{none, some};
 ghost use Rattle.model.specs.Basics.{bit};
 ghost use Rattle.model.specs.Reading.{good, bad, after};
@@ -21,7 +21,8 @@ pub struct Lines<'a> {
 
 // The digit that a text begins with, and the rest.
 fn digit(text: &[u8]) -> Option<(u64, &[u8])>
-    ensures { MatchOption result (figure text.now ≡ None) (λ x. (figure text.now ≡ Some x.0) × (x.1.now ≡ drop 1 text.now)) }
+    ensures { MatchOption result (figure text.now ≡ None)
+        (λ x. (figure text.now ≡ Some x.0) × (x.1.now ≡ drop 1 text.now)) }
 {
     let (first, rest) = text.split_first()?;
     if first.is_ascii_digit() {
@@ -41,7 +42,8 @@ fn with_digit(n: u64, d: u64, high: u64) -> Option<u64>
 
 // A plain number of at most `high` and its line feed, and the rest: no sign and no leading zero pass.
 fn number(text: &[u8], high: u64) -> Option<(u64, &[u8])>
-    ensures { MatchOption result (number_of [] 0 high text.now ≡ bad text.now) (λ x. number_of [] 0 high text.now ≡ good x.0 x.1.now) }
+    ensures { MatchOption result (number_of [] 0 high text.now ≡ bad text.now)
+        (λ x. number_of [] 0 high text.now ≡ good x.0 x.1.now) }
 {
     let (mut n, mut rest) = digit(text)?;
     if high < n {
@@ -60,7 +62,8 @@ fn number(text: &[u8], high: u64) -> Option<(u64, &[u8])>
 
 // A key, a number from `low` to `high` and a line feed, and the rest.
 fn keyed_number<'a>(text: &'a [u8], key: &[u8], low: u64, high: u64) -> Option<(u64, &'a [u8])>
-    ensures { MatchOption result (number_of key.now low high text.now ≡ bad text.now) (λ x. number_of key.now low high text.now ≡ good x.0 x.1.now) }
+    ensures { MatchOption result (number_of key.now low high text.now ≡ bad text.now)
+        (λ x. number_of key.now low high text.now ≡ good x.0 x.1.now) }
 {
     let (n, rest) = number(text.strip_prefix(key)?, high)?;
     if n < low { None } else { Some((n, rest)) }

@@ -14,6 +14,8 @@ use signals::{Changed, Woke};
 // The answer of a wait that was cancelled.
 const INTERRUPTED: u32 = 6;
 
+// kept: each call takes the array out of the slice itself, since what is written through a part that another function hands
+// out is not known of the whole afterwards. So do ntsync_objects and ntsync_waits.
 fn try_close(tables: &mut [u64], handle: u32) -> Result<(), Refusal>
     ensures { left_by done result tables.new
         ≡ guarded nothing_lent tables.old (close_cells handle tables.old nothing_lent) }

@@ -18,13 +18,11 @@ const WAITS: u64 = tables::WAIT_PLACES as u64;
 
 const LISTED: u64 = tables::MAX_LISTED as u64;
 
-const MAX_32: u64 = 4294967295;
-
-const MAX_64: u64 = 18446744073709551615;
+const MAX_32: u64 = u32::MAX as u64;
 
 // ---- an object: its handle, its kind, and the values of each kind
 
-// kept: a function for each kind, since keys, their number and their ranges differ; one function would only be told them all.
+// kept: a function for each kind, since its keys, their number and their ranges differ.
 
 fn read_semaphore<'a>(lines: &mut Lines<'a>) -> Result<Object, NotDue<'a>>
     ensures { ObjectTold (read_values a_semaphore lines.old.rest.now) lines.new.rest.now result }
@@ -108,7 +106,8 @@ pub fn read_objects<'a>(lines: &mut Lines<'a>, n: u64, t: &mut Cells) -> Result<
 
 // As many handles as the lent list has room for.
 pub fn read_list<'a>(lines: &mut Lines<'a>, list: &mut [u64]) -> Result<(), NotDue<'a>>
-    ensures { Told (λ _. list.new) (times (length list.old) (number_line "obj=" 1 object_places) lines.old.rest.now) lines.new.rest.now result }
+    ensures { Told (λ _. list.new) (times (length list.old) (number_line "obj=" 1 object_places) lines.old.rest.now)
+        lines.new.rest.now result }
 {
     for handle in list.iter_mut() {
         *handle = lines.number(b"obj=", 1, HANDLES)?;
@@ -123,11 +122,11 @@ pub fn read_wait<'a>(
 ) -> Result<Header, NotDue<'a>>
     ensures { WaitTold (read_wait lines.old.rest.now) list.new lines.new.rest.now result }
 {
-    let ticket = lines.number(b"wait=", 1, MAX_64)?;
+    let ticket = lines.number(b"wait=", 1, u64::MAX)?;
     let mode = u64::from(lines.either(b"mode=any\n", b"mode=all\n")?);
     let owner = lines.number(b"owner=", 0, MAX_32)?;
     let clock = u64::from(lines.either(b"clock=mono\n", b"clock=real\n")?);
-    let timeout = lines.number(b"timeout=", 0, MAX_64)?;
+    let timeout = lines.number(b"timeout=", 0, u64::MAX)?;
     let alert = lines.number(b"alert=", 0, HANDLES)?;
     let listed = lines.number(b"n=", 0, LISTED)?;
     let named = &mut list[..listed as usize];
@@ -170,7 +169,7 @@ pub fn read_snapshot<'a>(text: &'a [u8], t: &mut Cells) -> Result<bool, NotDue<'
     ensures { ReadAll text.now t.old t.new result }
 {
     let mut lines = Lines { rest: text };
-    let next = lines.number(b"next=", 1, MAX_64)?;
+    let next = lines.number(b"next=", 1, u64::MAX)?;
     let objects = lines.number(b"objects=", 0, HANDLES)?;
     tables::put_next(t, next);
     let handles_rise = read_objects(&mut lines, objects, t)?;

@@ -22,7 +22,7 @@ pub struct Woke {
     pub woken: u32,
 }
 
-// The same with its answer, as C sees it.
+// The same with its answer, as C sees it. kept: the C interface's struct, an answer with two numbers beside it
 #[repr(C)]
 #[derive(Clone, Copy)]
 pub struct Changed {
@@ -51,6 +51,8 @@ impl From<Result<Woke, Refusal>> for Changed {
 }
 
 // The next state is stored, and the walk follows.
+// kept: in the calls below valid tables are a clause. The reads of `calls` take `validity::Sound`, which lends tables for reading;
+// a changed table would have to be proved valid again to stay in such a struct.
 fn apply(t: &mut Cells, wake: &mut [u64], h: u64, previous: u32, next: Object) -> Woke
     requires { wake_length ≤ length wake.old }
     ensures { left_by (Ok result) t.new wake.new

@@ -1,10 +1,12 @@
-// The snapshot's writer: objects by handle, waits by ticket. Each function asks for room for its text: the public call has
-// tested the buffer, and no snapshot of valid tables is longer (crates/model/proofs/SnapshotLength.antt).
+// The snapshot's writer: objects by handle, waits by ticket. Each function asks for room for its text: the public call
+// has tested the buffer, and no snapshot of valid tables is longer (crates/model/proofs/SnapshotLength.antt).
 #![tactic(auto)]
 
 ghost use Rattle.std.specs.Prelude.{◌≡◌, cond, ◌<◌, length, eqb};
 ghost use Rattle.model.specs.Sizes.{object_places, wait_places};
-ghost use Rattle.cells.specs.Snapshot.{semaphore_text, mutex_text, event_text, fields_text, objects_text_below, object_total, wait_total, list_text_below, wait_text_at, waits_text_from, body_of, snapshot_of};
+ghost use Rattle.cells.specs.Snapshot.{semaphore_text, mutex_text, event_text, fields_text, objects_text_below};
+ghost use Rattle.cells.specs.Snapshot.{object_total, wait_total, list_text_below, wait_text_at, waits_text_from};
+ghost use Rattle.cells.specs.Snapshot.{body_of, snapshot_of};
 ghost use Rattle.decimal.specs.Text.{Room, Wrote};
 ghost use Rattle.decimal.specs.Writing.{HasRoom, Appended};
 ghost use Rattle.kinds.specs.Values.{cells_of};
@@ -15,7 +17,7 @@ use tables::Cells;
 
 // ---- objects
 
-// kept: a function for each kind, since its keys and their number differ; one function would only be told them all.
+// kept: a function for each kind, since its keys and their number differ.
 fn put_semaphore(w: &mut Writer, h: u64, o: Object)
     requires { HasRoom w.old (semaphore_text h (cells_of o)) }
     ensures { Appended w.old w.new (semaphore_text h (cells_of o)) }

@@ -33,7 +33,7 @@ const WAIT_SIZE: usize = HEADER_SIZE + MAX_LISTED;
 
 const WAITS_BASE: usize = 1 + OBJECT_SIZE * OBJECT_PLACES;
 
-// What a wait asks for, as its cells hold it.
+// What a wait asks for, as its cells hold it. kept: mode and clock are numbers, since a damaged cell can hold any
 #[derive(Clone, Copy)]
 pub struct Terms {
     // 0 for any, 1 for all
@@ -135,6 +135,9 @@ pub fn put_next(t: &mut Cells, next: u64)
 {
     t[0] = next;
 }
+
+// kept: a place is a number, and `p < wait_places` a clause. With a struct for it every loop over the places would wrap its
+// number, as `ticket_at(t, Place { p })`, and every contract take it out again.
 
 // Cell j of a wait place.
 pub fn wait_cell(t: &Cells, p: usize, j: usize) -> u64
@@ -350,6 +353,8 @@ pub fn make(t: &mut Cells)
 }
 
 // ---- the sizes, tied to the numbers of the meaning
+
+// kept: a function for each, since each ties one constant to one number; a general one would be given both.
 
 pub fn object_places() -> usize
     ensures { result ≡ object_places }

@@ -1,14 +1,10 @@
-use Rattle.model.proofs.Digits.{digits_u64}
-use Rattle.decimal.proofs.Laws.{count_one, count_more}
+use Rattle.std.proofs.Common.{sym, rules}
+use Rattle.decimal.proofs.Laws.{count_one, count_is}
 use native.Mathlib.Omega.{arith}
-use borrow.Author.Rules.{rules}
 use Rattle.decimal.proofs.digit_count.Goals as goal
 
-pub overflow_add-count : goal.overflow_add-count
-overflow_add-count c = search (rules, digits_u64 c.args.n (search rules))
+pub returns-then-n-eq0 : goal.returns-then-n-eq0
+returns-then-n-eq0 c = sym (count_one c.args.n (omega arith))
 
-pub loop-front-preserved : goal.loop-front-preserved
-loop-front-preserved c = let e = count_more c.loop-front.front (omega arith) (search rules) in (search rules, omega arith)
-
-pub returns : goal.returns
-returns c = let e = count_one c.loop-front.front (omega arith) in omega arith
+pub returns-else-n-eq0 : goal.returns-else-n-eq0
+returns-else-n-eq0 c = sym (count_is c.ilog10.result c.args.n c.ilog10.ensures.power_le c.ilog10.ensures.next_power_gt (search rules))
