@@ -1,4 +1,4 @@
--- One line of a text, as code reads it: a position in the text and a struct by value.
+-- One line of a text as code reads it: its digits, a number with its key, one of two lines; and what is told of a reading.
 use Rattle.std.specs.Prelude.{◌≡◌, ℕ, ◌-◌, cond, ◌&&◌, List, [], ◌∷◌, ◌++◌, length, drop, nat_le, nat_lt, Option, Some, None, Result, MatchResult}
 use Rattle.model.specs.Basics.{maybe}
 use Rattle.model.specs.Snapshot.{digits_up_to}
