@@ -72,6 +72,7 @@ fn put_objects(w: &mut Writer, t: &Cells)
     }
 }
 
+// kept: here and for the waits, since a count by a closure would take as many lines in each.
 fn object_total(t: &Cells) -> u64
     ensures { result ≡ object_total t.now }
 {
