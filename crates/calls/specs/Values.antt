@@ -1,7 +1,9 @@
 -- What a call that is lent nothing but the tables leaves: what it told, and the tables.
-use Rattle.std.specs.Prelude.{ℕ, List, Option, Some, None, Result, Ok, Err}
+use Rattle.std.specs.Prelude.{ℕ, List, false, Option, Some, None, Result, Ok, Err}
 use Rattle.model.specs.Calls.{nothing_lent}
-use Rattle.cells.specs.Calls.{Result as Left, answered, refused_with}
+use Rattle.cells.specs.Calls.{Result as Left, answered, refused_with, create_cells}
+use Rattle.kinds.specs.Values.{cells_of}
+use Rattle.kinds.specs.declared.object.Object.{Object}
 use Rattle.kinds.specs.Refusals.{number_of}
 use Rattle.kinds.specs.declared.refusal.Refusal.{Refusal}
 
@@ -27,3 +29,7 @@ mutex_numbers None t = answered 4 0 0 t nothing_lent
 -- a wait that was cancelled: its answer alone tells
 abbrev pub cancelled : {A : Type 0} → A → List ℕ → Left
 cancelled x t = answered 6 0 0 t nothing_lent
+
+-- an object whose numbers are no reason to refuse it
+abbrev pub placed : Object → List ℕ → Left
+placed o t = create_cells false (cells_of o) t nothing_lent

@@ -7,20 +7,21 @@ ghost use Rattle.model.specs.Sizes.{wait_places};
 ghost use Rattle.model.specs.Calls.{nothing_lent, a_semaphore, a_mutex, an_event};
 ghost use Rattle.cells.specs.Fold.{some_below};
 ghost use Rattle.cells.specs.Validity.{valid_cells};
-ghost use Rattle.cells.specs.Calls.{create_cells, busy_at, close_cells, read_pair, read_cells, reset_cells, cancel_cells};
+ghost use Rattle.cells.specs.Calls.{busy_at, close_cells, read_pair, read_cells, reset_cells, cancel_cells};
 ghost use Rattle.kinds.specs.Kinds.{cell_of};
 ghost use Rattle.kinds.specs.Values.{cells_of};
-ghost use Rattle.calls.specs.Values.{left_by, done, number, numbers, mutex_numbers, cancelled};
+ghost use Rattle.calls.specs.Values.{left_by, done, number, placed, numbers, mutex_numbers, cancelled};
 
 use kinds::{Kind, Object, Refusal};
 use tables::Cells;
 use validity::Sound;
 
-// A new object at the lowest empty place; its handle.
+// What a constructor made, at the lowest empty place; its handle.
 #[tactic(auto, unfolding(cells::specs::Calls::create_cells))]
-pub fn create(t: &mut Cells, o: Object) -> Result<u32, Refusal>
-    ensures { left_by number result t.new ≡ create_cells false (cells_of o) t.old nothing_lent }
+pub fn create(t: &mut Cells, new: Result<Object, Refusal>) -> Result<u32, Refusal>
+    ensures { left_by number result t.new ≡ left_by placed new t.old }
 {
+    let o = new?;
     let p = tables::empty_object(t).ok_or(Refusal::NoRoom)?;
     tables::put_object(t, p, o);
     Ok((p + 1) as u32)

@@ -8,23 +8,17 @@ ghost use Rattle.cells.specs.Calls.{guarded, close_cells, reset_cells, cancel_ce
 ghost use Rattle.calls.specs.Values.{left_by, done, number, cancelled};
 
 use kinds::Refusal;
-use ntsync_guard::sound;
+use ntsync_guard::guarded;
 use signals::{Changed, Woke};
 
 // The answer of a wait that was cancelled.
 const INTERRUPTED: u32 = 6;
 
-// kept: each call takes the array out of the slice itself, since what is written through a part that another function hands
-// out is not known of the whole afterwards. So do ntsync_objects and ntsync_waits.
 fn try_close(tables: &mut [u64], handle: u32) -> Result<(), Refusal>
     ensures { left_by done result tables.new
         ≡ guarded nothing_lent tables.old (close_cells handle tables.old nothing_lent) }
 {
-    let Some(t) = tables.as_mut_array() else {
-        return Err(Refusal::Corrupt);
-    };
-    sound(t)?;
-    calls::close(t, u64::from(handle))
+    guarded(tables, |t| calls::close(t, u64::from(handle)))
 }
 
 pub fn close(tables: &mut [u64], handle: u32) -> u32
@@ -41,11 +35,7 @@ fn try_reset(tables: &mut [u64], handle: u32) -> Result<u32, Refusal>
     ensures { left_by number result tables.new
         ≡ guarded nothing_lent tables.old (reset_cells handle tables.old nothing_lent) }
 {
-    let Some(t) = tables.as_mut_array() else {
-        return Err(Refusal::Corrupt);
-    };
-    sound(t)?;
-    calls::reset(t, u64::from(handle))
+    guarded(tables, |t| calls::reset(t, u64::from(handle)))
 }
 
 pub fn reset(tables: &mut [u64], handle: u32) -> Changed
@@ -62,11 +52,7 @@ fn try_cancel(tables: &mut [u64], ticket: u64) -> Result<(), Refusal>
     ensures { left_by cancelled result tables.new
         ≡ guarded nothing_lent tables.old (cancel_cells ticket tables.old nothing_lent) }
 {
-    let Some(t) = tables.as_mut_array() else {
-        return Err(Refusal::Corrupt);
-    };
-    sound(t)?;
-    calls::cancel(t, ticket)
+    guarded(tables, |t| calls::cancel(t, ticket))
 }
 
 pub fn cancel(tables: &mut [u64], ticket: u64) -> u32

@@ -1,9 +1,14 @@
 -- From cells to the meaning: what a call leaves by the definitions of `cells` is what a host sees of its outcome.
-use Prim.Native.Nat.{ℕ}
+use Prim.Native.Nat.{ℕ, ◌<◌, ◌≤◌}
+use borrow.Author.Tests.{lt-ltb, le-ltb}
 use mathlib.Core.Path.{◌≡◌, sym, ap, ◌∙◌}
+use mathlib.Core.Bool.{true, false}
 use mathlib.Core.List.{List, [], ◌∷◌}
 use lib.ListN.{length}
-use Rattle.model.specs.Calls.{Operation, Lent, lend, asks}
+use Rattle.model.specs.Calls.{Operation, Lent, lend, wake_lent, asks}
+use Rattle.model.specs.Sizes.{wake_length}
+use Rattle.cells.specs.Validity.{valid_cells}
+use Rattle.ntsync_guard.specs.Work.{tested}
 use Rattle.model.specs.Layout.{table_length}
 use Rattle.model.specs.Steps.{table_step, Seen, sees, seen}
 use Rattle.cells.specs.Calls.{Result, refused_with, on_cells, call_cells, guarded}
@@ -23,3 +28,18 @@ guarded_short t l r n = rw (sym (whole_short t n))
 pub means : (op : Operation) (t : List ℕ) (l : Lent) {r : Result} → Words t → r ≡ guarded l t (on_cells op t l) → seen (table_step t (asks op l)) ≡ shown r
 unfolding call_cells
 means op t l w e = ap shown (sym (e ∙ call_means (asks op l) t w))
+
+-- the tests before a call's work, where the tables t were lent as an array u; the last is of a wake list
+module _ (t : List ℕ) {u : List ℕ} (same : u ≡ t) where
+  pub corrupt_out : (l : Lent) (r : Result) → valid_cells u ≡ false → refused_with 9 u l ≡ guarded l t r
+  corrupt_out l r n = rw (← same, n)
+
+  pub sound_in : (l : Lent) {r s : Result} → valid_cells u ≡ true → s ≡ r → s ≡ guarded l t r
+  sound_in l y e = rw (← same, y) e
+
+  module _ (wake : List ℕ) (r : Result) where
+    pub short_out : valid_cells u ≡ true → length wake < wake_length → refused_with 12 u (wake_lent wake) ≡ tested t wake r
+    short_out y l = rw (← same, y, lt-ltb (length wake) wake_length l)
+
+    pub long_in : {s : Result} → valid_cells u ≡ true → wake_length ≤ length wake → s ≡ r → s ≡ tested t wake r
+    long_in y l e = rw (← same, y, le-ltb (length wake) wake_length l) e

@@ -1,9 +1,14 @@
-// What the public calls share: the test of the tables, and how long a wake list is.
+// What the public calls share: the test of the tables, and for calls that write also that of the wake list, before their work.
 #![tactic(auto)]
 
+ghost use Rattle.std.specs.Prelude.{◌≡◌, List, ℕ, Result};
+ghost use Rattle.model.specs.Calls.{nothing_lent};
+ghost use Rattle.cells.specs.Calls.{Result as Left, guarded};
 ghost use Rattle.ntsync_guard.specs.Values.{FoundSound};
+ghost use Rattle.ntsync_guard.specs.Work.{OnSound, Refuses, Does, OnLong, RefusesWoken, DoesWoken, tested};
 
 use kinds::Refusal;
+use tables::Cells;
 use validity::Sound;
 
 // A record for every wait place.
@@ -17,4 +22,45 @@ pub fn sound(tables: &[u64]) -> Result<Sound, Refusal>
         Some(cells) if validity::valid(cells) => Ok(Sound { cells }),
         _ => Err(Refusal::Corrupt),
     }
+}
+
+// A call's work on valid tables; corrupt ones are refused before it. (`left` is what a result leaves, `rule` what it should.)
+pub fn guarded<R, F: FnOnce(&mut Cells) -> Result<R, Refusal>>(
+    tables: &mut [u64],
+    work: F,
+) -> Result<R, Refusal>
+    requires { OnSound (F.pre work) }
+    ensures { (left : Result R Refusal → List ℕ → Left) (rule : List ℕ → Left) → Refuses left → Does (F.post work) left rule
+        → left result tables.new ≡ guarded nothing_lent tables.old (rule tables.old) }
+{
+    let Some(t) = tables.as_mut_array() else {
+        return Err(Refusal::Corrupt);
+    };
+    let Ok(_) = sound(t) else {
+        return Err(Refusal::Corrupt);
+    };
+    work(t)
+}
+
+// The work of a call that wakes; corrupt tables are refused before it, then a wake list that is too short.
+pub fn guarded_wake<R, F: FnOnce(&mut Cells, &mut [u64]) -> Result<R, Refusal>>(
+    tables: &mut [u64],
+    wake: &mut [u64],
+    work: F,
+) -> Result<R, Refusal>
+    requires { OnLong (F.pre work) }
+    ensures { (left : Result R Refusal → List ℕ → List ℕ → Left) (rule : List ℕ → List ℕ → Left) → RefusesWoken left
+        → DoesWoken (F.post work) left rule
+        → left result tables.new wake.new ≡ tested tables.old wake.old (rule tables.old wake.old) }
+{
+    let Some(cells) = tables.as_mut_array() else {
+        return Err(Refusal::Corrupt);
+    };
+    let Ok(_) = sound(cells) else {
+        return Err(Refusal::Corrupt);
+    };
+    if wake.len() < WAKE_LENGTH {
+        return Err(Refusal::ListShort);
+    }
+    work(cells, wake)
 }

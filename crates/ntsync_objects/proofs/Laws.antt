@@ -8,8 +8,7 @@ use Rattle.kinds.proofs.Laws.{refuses}
 use Rattle.kinds.specs.Values.{changed_by, creation}
 use Rattle.kinds.specs.declared.object.Object.{Object}
 use Rattle.kinds.specs.declared.refusal.Refusal.{Refusal}
-use Rattle.calls.specs.Values.{left_by}
-use Rattle.ntsync_objects.specs.Values.{placed}
+use Rattle.calls.specs.Values.{left_by, placed}
 use mathlib.Core.List.{List}
 use lib.ListN.{length}
 use borrow.Author.Tests.{eq-eqb, ne_eqb}

@@ -5,8 +5,8 @@ ghost use Rattle.std.specs.Prelude.{◌≡◌, [], ◌∷◌};
 ghost use Rattle.model.specs.Calls.{create, a_semaphore, a_mutex, an_event, nothing_lent, asks};
 ghost use Rattle.model.specs.Steps.{table_step, make_tables, seen, sees};
 ghost use Rattle.cells.specs.Calls.{guarded};
-ghost use Rattle.calls.specs.Values.{left_by, number};
-ghost use Rattle.ntsync_objects.specs.Values.{placed, CreatedBy};
+ghost use Rattle.calls.specs.Values.{left_by, number, placed};
+ghost use Rattle.ntsync_objects.specs.Values.{CreatedBy};
 
 use kinds::{Event, Mutex, Object, Refusal, Semaphore};
 
@@ -49,13 +49,7 @@ fn place(tables: &mut [u64], new: Result<Object, Refusal>) -> Result<u32, Refusa
     ensures { left_by number result tables.new
         ≡ guarded nothing_lent tables.old (left_by placed new tables.old) }
 {
-    let Some(t) = tables.as_mut_array() else {
-        return Err(Refusal::Corrupt);
-    };
-    if !validity::valid(t) {
-        return Err(Refusal::Corrupt);
-    }
-    calls::create(t, new?)
+    ntsync_guard::guarded(tables, |t| calls::create(t, new))
 }
 
 pub fn create_sem(tables: &mut [u64], count: u32, max: u32) -> Created

@@ -1,35 +1,19 @@
 -- The calls that wake, behind 9 and 12: from cells to the meaning.
-use Prim.Native.Nat.{ℕ, ◌≤◌, ◌<◌}
+use Prim.Native.Nat.{ℕ}
 use mathlib.Core.Path.{◌≡◌, refl, ◌∙◌}
-use mathlib.Core.Bool.{true, false}
 use mathlib.Core.List.{List, [], ◌∷◌}
-use lib.ListN.{length}
-use borrow.Author.Tests.{lt-ltb, le-ltb}
 use Rattle.std.specs.Prelude.{Result, Ok, Err}
 use Rattle.model.specs.Calls.{signal, expire, Signal, wake_lent, asks}
-use Rattle.model.specs.Sizes.{wake_length}
 use Rattle.model.specs.Steps.{table_step, seen, sees}
 use Rattle.cells.specs.Objects.{named}
-use Rattle.cells.specs.Validity.{valid_cells}
-use Rattle.cells.specs.Calls.{Result as Left, refused_with, signal_on, signal_cells, expire_on, expire_cells}
+use Rattle.cells.specs.Calls.{signal_on, signal_cells, expire_on, expire_cells}
 use Rattle.kinds.specs.declared.refusal.Refusal.{Refusal}
 use Rattle.refine.proofs.Validity.{Words}
 use Rattle.signals.specs.declared.Woke.{Woke}
 use Rattle.signals.specs.declared.Changed.{Changed}
 use Rattle.signals.specs.Values.{left_by, told_by}
 use Rattle.ntsync_guard.proofs.Laws.{shown, means}
-use Rattle.ntsync_signals.specs.Work.{tested}
-
--- the two tests, where the tables t were lent as an array u
-module _ (t wake : List ℕ) {u : List ℕ} (same : u ≡ t) (r : Left) where
-  pub corrupt_out : valid_cells u ≡ false → refused_with 9 u (wake_lent wake) ≡ tested t wake r
-  corrupt_out n = rw (← same, n)
-
-  pub short_out : valid_cells u ≡ true → length wake < wake_length → refused_with 12 u (wake_lent wake) ≡ tested t wake r
-  short_out y l = rw (← same, y, lt-ltb (length wake) wake_length l)
-
-  pub done_in : {s : Left} → valid_cells u ≡ true → wake_length ≤ length wake → s ≡ r → s ≡ tested t wake r
-  done_in y l e = rw (← same, y, le-ltb (length wake) wake_length l) e
+use Rattle.ntsync_guard.specs.Work.{tested}
 
 -- what C is told is what a host sees
 told : (r : Result Woke Refusal) (u v : List ℕ) → shown (left_by r u v) ≡ sees ((told_by r).answer ∷ (told_by r).previous ∷ 0 ∷ (told_by r).woken ∷ []) (wake_lent v) u

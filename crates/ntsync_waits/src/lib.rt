@@ -66,13 +66,9 @@ fn wait(
         (wait_on_cells terms.mode list.now terms.owner terms.clock pad terms.alert terms.timeout time
         tables.old nothing_lent) }
 {
-    let Some(t) = tables.as_mut_array() else {
-        return Err(Refusal::Corrupt);
-    };
-    if !validity::valid(t) {
-        return Err(Refusal::Corrupt);
-    }
-    waits::wait(t, terms, list, u64::from(pad), time)
+    ntsync_guard::guarded(tables, |t| {
+        waits::wait(t, terms, list, u64::from(pad), time)
+    })
 }
 
 pub fn wait_any(

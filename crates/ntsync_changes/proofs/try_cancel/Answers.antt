@@ -1,6 +1,9 @@
+use borrow.Author.Rules.{rules}
+use mathlib.Core.Path.{refl}
 use Rattle.model.specs.Calls.{nothing_lent}
-use Rattle.ntsync_guard.proofs.Laws.{guarded_short}
+use Rattle.cells.specs.Calls.{cancel_cells}
+use Rattle.calls.specs.Values.{left_by, cancelled}
 use Rattle.ntsync_changes.proofs.try_cancel.Goals as goal
 
-pub returns-in_default : goal.returns-in_default
-returns-in_default c = guarded_short c.args.tables.now nothing_lent _ c.in_default.ensures.cases
+pub returns : goal.returns
+returns c = c.guarded.ensures (left_by cancelled) (λ t. cancel_cells c.args.ticket t nothing_lent) (λ e t. refl) (λ t r u q. search rules)

@@ -1,6 +1,9 @@
+use borrow.Author.Rules.{rules}
+use mathlib.Core.Path.{refl}
 use Rattle.model.specs.Calls.{nothing_lent}
-use Rattle.ntsync_guard.proofs.Laws.{guarded_short}
+use Rattle.cells.specs.Calls.{close_cells}
+use Rattle.calls.specs.Values.{left_by, done}
 use Rattle.ntsync_changes.proofs.try_close.Goals as goal
 
-pub returns-in_default : goal.returns-in_default
-returns-in_default c = guarded_short c.args.tables.now nothing_lent _ c.in_default.ensures.cases
+pub returns : goal.returns
+returns c = c.guarded.ensures (left_by done) (λ t. close_cells c.args.handle t nothing_lent) (λ e t. refl) (λ t r u q. search rules)

@@ -1,6 +1,7 @@
-use Rattle.model.specs.Calls.{nothing_lent}
-use Rattle.ntsync_guard.proofs.Laws.{guarded_short}
+use borrow.Author.Rules.{rules}
+use mathlib.Core.Path.{refl}
+use Rattle.calls.specs.Values.{left_by, number, placed}
 use Rattle.ntsync_objects.proofs.place.Goals as goal
 
-pub returns-in_default : goal.returns-in_default
-returns-in_default c = guarded_short c.args.tables.now nothing_lent _ c.in_default.ensures.cases
+pub returns : goal.returns
+returns c = c.guarded.ensures (left_by number) (λ t. left_by placed c.args.new t) (λ e t. refl) (λ t r u q. search rules)

@@ -1,6 +1,10 @@
+use borrow.Author.Rules.{rules}
+use mathlib.Core.Path.{refl}
 use Rattle.model.specs.Calls.{nothing_lent}
-use Rattle.ntsync_guard.proofs.Laws.{guarded_short}
+use Rattle.cells.specs.Calls.{wait_on_cells}
+use Rattle.waits.specs.Values.{waited_by}
 use Rattle.ntsync_waits.proofs.wait.Goals as goal
 
-pub returns-in_default : goal.returns-in_default
-returns-in_default c = guarded_short c.args.tables.now nothing_lent _ c.in_default.ensures.cases
+pub returns : goal.returns
+returns c = let a = c.args in let w = a.terms in
+    c.guarded.ensures waited_by (λ t. wait_on_cells w.mode a.list.now w.owner w.clock a.pad w.alert w.timeout a.time t nothing_lent) (λ e t. refl) (λ t r u q. search rules)
