@@ -21,7 +21,7 @@ pub struct Served {
 }
 
 impl Served {
-    // The number that C sees.
+    // The number that C sees. kept: a number, for the C structs and the records
     pub fn answer(self) -> u32
         ensures { result ≡ cond self.abandoned 4 0 }
     {

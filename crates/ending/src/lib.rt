@@ -76,13 +76,14 @@ pub fn next_due(t: &Cells, clock: u64, time: u64) -> Option<usize>
 #[derive(Clone, Copy)]
 pub struct Record {
     pub ticket: u64,
+    // kept: a number, as it stands in the list
     pub answer: u64,
     pub index: u64,
 }
 
 // Record k of a wake list.
-// kept: here, in `walk` and in `signals` a wake list is a slice, and its least length a clause: lists may be longer, so it is no
-// array, and a struct around it would bring three clauses (whose list, what is told, how many) in place of the one.
+// kept: here, in `walk` and in `signals` a wake list is a slice, and its least length a clause. As an array of the first 96 cells
+// it would need a law that the walk leaves the others; as a struct three clauses (whose list, what is told, how many).
 pub fn put_record(wake: &mut [u64], k: usize, r: Record)
     requires { (k < wait_places) × (wake_length ≤ length wake.old) }
     ensures { wake.new ≡ put_record wake.old k r.ticket r.answer r.index }

@@ -101,7 +101,7 @@ impl From<Result<(u32, u32), Refusal>> for EventState {
     }
 }
 
-// kept: a function for each kind here, since each is one line, and what it reads has a type of its own.
+// kept: a function for each kind, of one line, since each says in its contract what it reads.
 fn semaphore(tables: &[u64], handle: u32) -> Result<(u32, u32), Refusal>
     ensures { left_by numbers result tables.now
         ≡ guarded nothing_lent tables.now (read_cells a_semaphore handle tables.now nothing_lent) }

@@ -55,16 +55,16 @@ pub fn restore(tables: &mut [u64], text: &[u8]) -> Restored
     ensures { seen (restore_tables tables.old text.now)
         ≡ sees (result.answer ∷ result.offset ∷ 0 ∷ 0 ∷ []) nothing_lent tables.new }
 {
-    if tables.len() != tables::TABLE_LENGTH {
+    let Some(t) = tables.as_mut_array() else {
         return Restored {
             answer: u32::from(Refusal::Corrupt),
             offset: 0,
         };
-    }
+    };
     let mut read: Cells = [0; tables::TABLE_LENGTH];
     match judge(text, &mut read) {
         Ok(()) => {
-            tables.copy_from_slice(&read);
+            *t = read;
             Restored {
                 answer: 0,
                 offset: 0,

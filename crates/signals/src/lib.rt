@@ -1,5 +1,5 @@
-// The calls that wake: an object's change is stored and the walk follows; and expire. Valid tables and a long enough wake list
-// are asked for: the public calls have tested both.
+// The calls that wake: an object's change is stored and the walk follows; and expire. A long enough wake list is asked for, and
+// valid tables where a number is handed back: the public calls have tested both.
 #![tactic(auto)]
 
 ghost use Rattle.std.specs.Prelude.{◌≡◌, true, ◌≤◌, length, Ok};
@@ -12,7 +12,7 @@ ghost use Rattle.cells.specs.Calls.{woke, signal_on, expire_on};
 ghost use Rattle.kinds.specs.Values.{cells_of};
 ghost use Rattle.signals.specs.Values.{left_by, told_by};
 
-use kinds::{Object, Refusal};
+use kinds::{Event, Object, Refusal};
 use tables::Cells;
 
 // The number handed back, and how many records stand at the front of the wake list.
@@ -51,8 +51,6 @@ impl From<Result<Woke, Refusal>> for Changed {
 }
 
 // The next state is stored, and the walk follows.
-// kept: in the calls below valid tables are a clause. The reads of `calls` take `validity::Sound`, which lends tables for reading;
-// a changed table would have to be proved valid again to stay in such a struct.
 fn apply(t: &mut Cells, wake: &mut [u64], h: u64, previous: u32, next: Object) -> Woke
     requires { wake_length ≤ length wake.old }
     ensures { left_by (Ok result) t.new wake.new
@@ -66,6 +64,8 @@ fn apply(t: &mut Cells, wake: &mut [u64], h: u64, previous: u32, next: Object) -
     }
 }
 
+// kept: here, in `unlock`, `set` and `pulse`, and in `calls::reset`, valid tables are a clause, since the tables change: in a
+// struct as `validity::Sound`, which the reads take, they would have to be proved valid again.
 pub fn post(t: &mut Cells, wake: &mut [u64], h: u64, add: u64) -> Result<Woke, Refusal>
     requires { (valid_cells t.old ≡ true) × (wake_length ≤ length wake.old) }
     ensures { left_by result t.new wake.new ≡ signal_on (post add) h (named t.old h) t.old (wake_lent wake.old) }
@@ -98,7 +98,7 @@ pub fn set(t: &mut Cells, wake: &mut [u64], h: u64) -> Result<Woke, Refusal>
     ensures { left_by result t.new wake.new ≡ signal_on set_event h (named t.old h) t.old (wake_lent wake.old) }
 {
     let o = tables::named(t, h);
-    let next = o.switch(1)?;
+    let next = o.switch(Event::SET)?;
     Ok(apply(t, wake, h, o.count as u32, next))
 }
 

@@ -98,7 +98,7 @@ pub fn wake(t: &mut Cells, wake: &mut [u64], h: u64) -> usize
             continue 'waits;
         }
         let n = tables::count_at(t, p);
-        // kept: by index, since the tables change where the loop is left, and its list is a part of them
+        // kept: nested labelled loops are document 01's form of this look; by index, since the tables change where it is left
         for i in 0..n {
             let x = tables::listed(t, p, i);
             let here = attempt::signaled(t, w.terms.owner, x);
