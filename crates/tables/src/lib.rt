@@ -289,9 +289,7 @@ pub fn put_list(t: &mut Cells, p: usize, list: &[u64])
     ensures { t.new ≡ put_list t.old p list.now }
 {
     let base = WAITS_BASE + WAIT_SIZE * p + HEADER_SIZE;
-    for (k, h) in list.iter().enumerate() {
-        t[base + k] = *h;
-    }
+    t[base..base + list.len()].copy_from_slice(list);
 }
 
 // A wait at empty place p, under the next ticket, which rises by one.
