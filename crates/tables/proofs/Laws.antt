@@ -1,5 +1,5 @@
 -- What the accessors' definitions come to on each way through the code.
-use Prim.Native.Nat.{ℕ, ◌+◌, ◌-◌, ◌≤◌, ◌<◌}
+use Prim.Native.Nat.{ℕ, zero, suc, ◌+◌, ◌-◌, ◌≤◌, ◌<◌}
 use mathlib.Core.Path.{◌≡◌, refl, ap, sym, ◌∙◌}
 use mathlib.Core.Bool.{Bool, true, false, ◌||◌, cond}
 use mathlib.Core.List.{List, [], ◌∷◌}
@@ -7,13 +7,15 @@ use native.Mathlib.Omega.{arith}
 use lib.ListN.{length, get_or, set, take, drop, replicate, length-replicate}
 use lib.Seq.{take-suc, take-suc-set, take-length, sets, sets-eq}
 use Rattle.std.proofs.Common.{◌++◌, length-append, length-drop, append_assoc}
-use Rattle.std.proofs.lemmas.List.{take_at}
+use Rattle.std.proofs.lemmas.List.{take_at, get_or-drop}
+use Rattle.std.proofs.lemmas.List.Sums.{fold-append}
 use borrow.Rule.Slice.PartMut.{put_mid, Post-is}
 use lib.Dec.{eqb, ltb, leb}
 use native.Mathlib.Numerals.{add-one}
 use borrow.Author.Tests.{lt-ltb, le-ltb, le-leb, lt-leb, eq-eqb, ne_eqb, eqb-false, ltb-true, ltb-false, leb-true}
 use Rattle.model.proofs.Logic.{by_bool, clash, and_split}
-use Rattle.std.specs.List.{list_any}
+use Rattle.std.specs.List.{fold, list_any}
+use lib.Bits.{bit_or}
 use Rattle.model.specs.Basics.{member, tabulate}
 use Rattle.refine.proofs.Fold.{eqb_flip, fold_stores, fold_clears}
 use Rattle.model.specs.Sizes.{object_places, wait_places, max_listed}
@@ -138,6 +140,16 @@ pub any_member : (list : List ℕ) (h : ℕ) → list_any (λ k. eqb k h) list �
 unfolding member
 any_member [] h = refl
 any_member (k ∷ list) h = rw (any_member list h, eqb_flip k h)
+
+-- cells or'ed as a list, and one by one
+ored_to : (t : List ℕ) (a n : ℕ) → a + n ≤ length t → fold bit_or 0 (take n (drop a t)) ≡ or_below (cell_from t a) n
+unfolding fold_below
+ored_to t a zero l = refl
+ored_to t a (suc n) l = let d : length (drop a t) ≡ length t - a = length-drop a t in let m : n < length (drop a t) = omega (arith, d) in
+    rw (take-suc (drop a t) n 0 m, fold-append, get_or-drop a t n 0, ored_to t a n (omega arith))
+
+pub ored : (t : List ℕ) (a n : ℕ) {x : ℕ} → a + n ≤ length t → x ≡ fold bit_or 0 (take ((a + n) - a) (drop a t)) → x ≡ or_below (cell_from t a) n
+ored t a n l e = let k : (a + n) - a ≡ n = omega arith in e ∙ rw k (ored_to t a n l)
 
 -- a list put at once, and one by one
 put_sets : (t : List ℕ) (a : ℕ) (new list : List ℕ) → a + length list ≤ length t → new ≡ list → put_mid a ((a + length list) - a) t new ≡ sets t a list

@@ -315,11 +315,7 @@ fn bits_of(t: &[u64], a: usize, n: usize) -> u64
     requires { a + n ≤ length t.now }
     ensures { result ≡ or_below (cell_from t.now a) n }
 {
-    let mut x = 0;
-    for k in 0..n {
-        x = x | t[a + k];
-    }
-    x
+    t[a..a + n].iter().fold(0, |x, cell| x | cell)
 }
 
 // A wait's list is zero from its end on.
