@@ -1,10 +1,11 @@
-// An attempt over a list of handles: what is signaled, what a look finds, what is acquired. The list is lent: a fresh wait's
-// own, or a copy of a queued one's.
+// An attempt over a list of handles: what is signaled, what a look finds, what is acquired. A fresh wait's list is its
+// own. A queued one's stands in the tables: a look reads it there, and `take_list`, which writes them, is lent a copy.
 #![tactic(auto)]
 
 ghost use Rattle.std.specs.Prelude.{◌≡◌, cond, length, Some};
 ghost use Rattle.model.specs.Calls.{time_up};
-ghost use Rattle.cells.specs.Attempt.{signaled_at, acquire_at, abandoned_at, look_any, look_all, acquire_first, abandoned_first, take_one, take_all, by_alert, try_any, try_all, try_list};
+ghost use Rattle.cells.specs.Attempt.{signaled_at, acquire_at, abandoned_at, look_any, look_all, acquire_first};
+ghost use Rattle.cells.specs.Attempt.{abandoned_first, take_one, take_all, by_alert, try_any, try_all, try_list};
 ghost use Rattle.tables.specs.Found.{Found};
 ghost use Rattle.attempt.specs.Values.{tried_by};
 

@@ -3,7 +3,7 @@ ghost use Rattle.kinds.specs.Kinds.{cell_of, NamesKind};
 
 use crate::refusal::Refusal;
 
-#[derive(Clone, Copy, Debug, PartialEq, Eq)]
+#[derive(Clone, Copy)]
 pub enum Kind {
     Semaphore,
     Mutex,

@@ -22,7 +22,7 @@ pub struct Object {
 }
 
 // The next state, and whether the object had been abandoned: neither says whether the other is there.
-#[derive(Clone, Copy, Debug, PartialEq, Eq)]
+#[derive(Clone, Copy)]
 pub struct Acquired {
     pub next: Object,
     pub abandoned: bool,

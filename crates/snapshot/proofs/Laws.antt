@@ -1,18 +1,20 @@
 -- What the writer's definitions come to on each way through the code.
 use Prim.Native.Nat.{ℕ, zero, suc, ◌+◌, ◌-◌, ◌%◌, ◌≤◌, ◌<◌}
-use mathlib.Core.Path.{◌≡◌, sym, ap, ◌∙◌}
-use mathlib.Core.Bool.{Bool, true, false}
-use mathlib.Core.List.{List, [], ◌++◌}
+use mathlib.Core.Path.{◌≡◌, refl, sym, ap, ◌∙◌}
+use mathlib.Core.Bool.{Bool, cond}
+use mathlib.Core.List.{List, [], ◌∷◌, ◌++◌, map}
 use mathlib.Core.Logic.{⊎_elim}
 use native.Mathlib.Omega.{arith}
-use native.Mathlib.Nat.{le_refl, eq-or-lt_of_le, le_of_suc-le-suc}
+use native.Mathlib.Nat.{zero-add, le_refl, eq-or-lt_of_le, le_of_suc-le-suc}
 use native.Mathlib.Numerals.{add-one}
 use borrow.Author.Tests.{ne_eqb, lt-ltb, le-ltb}
 use lib.ListN.{length, take, length-append}
-use Rattle.std.specs.Int.{from_bool}
+use Rattle.std.specs.List.{filter, range_with_len}
+use Rattle.std.proofs.lemmas.List.FromFn.{filter_of_map_range_with_len_more}
+use Rattle.std.proofs.Common.{map-id}
+use Rattle.model.proofs.Logic.{by_bool}
 use Rattle.model.specs.Snapshot.{line, byte_sum}
 use Rattle.cells.specs.Fold.{fold_below}
-use Rattle.cells.proofs.Fold.{fold_none, fold_more}
 use Rattle.model.specs.Basics.{bit}
 use Rattle.cells.specs.Objects.{Fields}
 use Rattle.cells.specs.Snapshot.{semaphore_text, mutex_text, event_text, fields_text, objects_text_below, object_total, wait_total, wait_lines, wait_text_at, waits_text_from, body_of, snapshot_of}
@@ -65,19 +67,19 @@ module _ (h : ℕ) (x : Fields) where
   text_empty a b c = rw (ne_eqb x.kind 1 a, ne_eqb x.kind 2 b, ne_eqb x.kind 3 c)
 
 -- counting
-pub one_low : {x : ℕ} (b : Bool) → x ≡ from_bool b → x ≤ 1
-one_low true e = omega arith
-one_low false e = omega arith
-
 abbrev pub counted : (ℕ → Bool) → ℕ → ℕ
 counted f n = fold_below (λ (k : ℕ) i. k + bit (f i)) 0 n
 
-pub counted_more : (f : ℕ → Bool) (i : ℕ) {total x : ℕ} (b : Bool) → total ≡ counted f i → b ≡ f i → x ≡ from_bool b → total + x ≡ counted f (i + 1)
-counted_more f i true e q y = rw (y, e) (ap (λ (b : Bool). counted f i + bit b) q ∙ fold_more (λ (k : ℕ) j. k + bit (f j)) 0 i)
-counted_more f i false e q y = rw (y, e) (ap (λ (b : Bool). counted f i + bit b) q ∙ fold_more (λ (k : ℕ) j. k + bit (f j)) 0 i)
+counted_last : (f : ℕ → Bool) (n k : ℕ) (list : List ℕ) → length list ≡ k → length (list ++ cond (f n) (n ∷ []) []) ≡ k + bit (f n)
+counted_last f n k list e = rw (length-append, e) (by_bool (f n) (λ y. rw y) (λ z. rw z))
 
-pub counted_none : (f : ℕ → Bool) → 0 ≡ counted f 0
-counted_none f = fold_none (λ (k : ℕ) j. k + bit (f j)) 0
+counted_to : (f : ℕ → Bool) (n : ℕ) → length (filter f (map (λ i. i) (range_with_len 0 n))) ≡ counted f n
+unfolding fold_below
+counted_to f zero = refl
+counted_to f (suc n) = ap (λ (m : ℕ). length (filter f (map (λ i. i) (range_with_len 0 m)))) (sym (add-one n)) ∙ ap length (filter_of_map_range_with_len_more f (λ i. i) 0 n n (zero-add n)) ∙ counted_last f n (counted f n) _ (counted_to f n)
+
+pub counted_is : (f : ℕ → Bool) (n : ℕ) → length (filter f (range_with_len 0 n)) ≡ counted f n
+counted_is f n = ap (λ (list : List ℕ). length (filter f list)) (sym (map-id (range_with_len 0 n))) ∙ counted_to f n
 
 -- a wait's text from what was read of it
 pub wait_lines_lem : (t : List ℕ) (p : ℕ) {ticket mode owner clock timeout alert : ℕ} {list : List ℕ} → ticket ≡ ticket_at t p → mode ≡ mode_at t p → owner ≡ owner_at t p → clock ≡ clock_at t p → timeout ≡ timeout_at t p → alert ≡ alert_at t p → list ≡ list_of t p

@@ -72,15 +72,12 @@ fn put_objects(w: &mut Writer, t: &Cells)
     }
 }
 
-// kept: here and for the waits, since a count by a closure would take as many lines in each.
 fn object_total(t: &Cells) -> u64
     ensures { result ≡ object_total t.now }
 {
-    let mut total = 0;
-    for p in 0..tables::OBJECT_PLACES {
-        total += u64::from(0 < tables::object_at(t, p).kind);
-    }
-    total
+    (0..tables::OBJECT_PLACES)
+        .filter(|&p| 0 < tables::object_at(t, p).kind)
+        .count() as u64
 }
 
 // ---- waits
@@ -88,11 +85,9 @@ fn object_total(t: &Cells) -> u64
 fn wait_total(t: &Cells) -> u64
     ensures { result ≡ wait_total t.now }
 {
-    let mut total = 0;
-    for p in 0..tables::WAIT_PLACES {
-        total += u64::from(0 < tables::ticket_at(t, p));
-    }
-    total
+    (0..tables::WAIT_PLACES)
+        .filter(|&p| 0 < tables::ticket_at(t, p))
+        .count() as u64
 }
 
 // The first word for a cell of 0, else the second.

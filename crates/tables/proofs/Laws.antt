@@ -1,21 +1,23 @@
 -- What the accessors' definitions come to on each way through the code.
-use Prim.Native.Nat.{ℕ, ◌+◌, ◌-◌, ◌≤◌, ◌<◌}
+use Prim.Native.Nat.{ℕ, zero, suc, ◌+◌, ◌-◌, ◌≤◌, ◌<◌}
 use mathlib.Core.Path.{◌≡◌, refl, ap, sym, ◌∙◌}
 use mathlib.Core.Bool.{Bool, true, false, ◌||◌, cond}
 use mathlib.Core.List.{List, [], ◌∷◌}
 use native.Mathlib.Omega.{arith}
 use lib.ListN.{length, get_or, set, take, drop, replicate, length-replicate}
-use lib.Seq.{take-suc, take-suc-set, take-length, sets-eq}
+use lib.Seq.{take-suc, take-suc-set, take-length, sets, sets-eq}
 use Rattle.std.proofs.Common.{◌++◌, length-append, length-drop, append_assoc}
-use Rattle.std.proofs.lemmas.List.{take_at}
+use Rattle.std.proofs.lemmas.List.{take_at, get_or-drop}
+use Rattle.std.proofs.lemmas.List.Sums.{fold-append}
 use borrow.Rule.Slice.PartMut.{put_mid, Post-is}
 use lib.Dec.{eqb, ltb, leb}
 use native.Mathlib.Numerals.{add-one}
 use borrow.Author.Tests.{lt-ltb, le-ltb, le-leb, lt-leb, eq-eqb, ne_eqb, eqb-false, ltb-true, ltb-false, leb-true}
 use Rattle.model.proofs.Logic.{by_bool, clash, and_split}
-use Rattle.std.specs.List.{list_any}
-use Rattle.model.specs.Basics.{member}
-use Rattle.refine.proofs.Fold.{eqb_flip, fold_clears}
+use Rattle.std.specs.List.{fold, list_any}
+use lib.Bits.{bit_or}
+use Rattle.model.specs.Basics.{member, tabulate}
+use Rattle.refine.proofs.Fold.{eqb_flip, fold_stores, fold_clears}
 use Rattle.model.specs.Sizes.{object_places, wait_places, max_listed}
 use Rattle.model.specs.Layout.{header_size, wait_size, table_length, in_wait}
 use Rattle.cells.specs.Objects.{Fields, fields, no_fields, object_cell, fields_at, put_fields, is_handle, named, store}
@@ -139,12 +141,33 @@ unfolding member
 any_member [] h = refl
 any_member (k ∷ list) h = rw (any_member list h, eqb_flip k h)
 
--- zeros put at once, and one by one
-pub filled : (t : List ℕ) (a n : ℕ) (zs : List ℕ) → a + n ≤ length t → zs ≡ replicate n 0 → put_mid a ((a + n) - a) t zs ≡ fold_below (λ u i. set u (a + i) 0) t n
-filled t a n zs l e = let z : length (replicate {A = ℕ} n 0) ≡ n = length-replicate n 0 in
+-- cells or'ed as a list, and one by one
+ored_to : (t : List ℕ) (a n : ℕ) → a + n ≤ length t → fold bit_or 0 (take n (drop a t)) ≡ or_below (cell_from t a) n
+unfolding fold_below
+ored_to t a zero l = refl
+ored_to t a (suc n) l = let d : length (drop a t) ≡ length t - a = length-drop a t in let m : n < length (drop a t) = omega (arith, d) in
+    rw (take-suc (drop a t) n 0 m, fold-append, get_or-drop a t n 0, ored_to t a n (omega arith))
+
+pub ored : (t : List ℕ) (a n : ℕ) {x : ℕ} → a + n ≤ length t → x ≡ fold bit_or 0 (take ((a + n) - a) (drop a t)) → x ≡ or_below (cell_from t a) n
+ored t a n l e = let k : (a + n) - a ≡ n = omega arith in e ∙ rw k (ored_to t a n l)
+
+-- a list put at once, and one by one
+put_sets : (t : List ℕ) (a : ℕ) (new list : List ℕ) → a + length list ≤ length t → new ≡ list → put_mid a ((a + length list) - a) t new ≡ sets t a list
+put_sets t a new list l e = rw (Post-is a (a + length list) t (omega arith), e) (let k : take a t ++ (list ++ drop (a + length list) t) ≡ sets t a list = sym (sets-eq list t a l ∙ append_assoc (take a t) list (drop (a + length list) t)) in k)
+
+each : (list : List ℕ) → tabulate (length list) (λ i. get_or list i 0) ≡ list
+unfolding tabulate
+each [] = refl
+each (h ∷ list) = ap (λ (l : List ℕ). h ∷ l) (each list)
+
+pub stored : (t : List ℕ) (a : ℕ) (new list : List ℕ) → a + length list ≤ length t → new ≡ list → put_mid a ((a + length list) - a) t new ≡ fold_below (λ u i. set u (a + i) (get_or list i 0)) t (length list)
+stored t a new list l e = put_sets t a new list l e ∙ sym (fold_stores t a (length list) (λ i. get_or list i 0) ∙ ap (sets t a) (each list))
+
+pub filled : (t : List ℕ) (a n : ℕ) (new : List ℕ) → a + n ≤ length t → new ≡ replicate n 0 → put_mid a ((a + n) - a) t new ≡ fold_below (λ u i. set u (a + i) 0) t n
+filled t a n new l e = let z : length (replicate {A = ℕ} n 0) ≡ n = length-replicate n 0 in
     let m : a + length (replicate {A = ℕ} n 0) ≤ length t = rw z l in
-    let k : take a t ++ (replicate n 0 ++ drop (a + n) t) ≡ fold_below (λ u i. set u (a + i) 0) t n = sym (fold_clears t a n ∙ sets-eq (replicate n 0) t a m ∙ rw z (append_assoc (take a t) (replicate n 0) (drop (a + n) t))) in
-    rw (Post-is a (a + n) t (omega arith), e) k
+    let k : put_mid a ((a + length (replicate {A = ℕ} n 0)) - a) t new ≡ sets t a (replicate n 0) = put_sets t a new (replicate n 0) m e in
+    rw z at k ∙ sym (fold_clears t a n)
 
 -- a list put at the front of an array
 pub front_length : (list new rest : List ℕ) → new ≡ list → length list ≤ length rest → length (new ++ drop (length list) rest) ≡ length rest

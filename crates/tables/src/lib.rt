@@ -1,11 +1,13 @@
-// The cells of the lent tables: objects and waits, read, written and searched. Only this crate knows where a cell stands.
+// The cells of the lent tables: objects and waits, read, written and searched. Only this crate knows where a cell
+// stands.
 #![tactic(auto)]
 
 ghost use Rattle.std.specs.Prelude.{◌≡◌, ◌+◌, ◌≤◌, ◌<◌, length, get_or, take};
 ghost use Rattle.model.specs.Sizes.{object_places, wait_places, max_listed, word64};
 ghost use Rattle.model.specs.Layout.{wait_size, table_length, in_wait};
 ghost use Rattle.cells.specs.Objects.{fields_at, put_fields, is_handle, named, store};
-ghost use Rattle.cells.specs.Waits.{next_ticket, put_next, ticket_at, mode_at, owner_at, clock_at, timeout_at, count_at, alert_at, list_of, names_of, has, names_at, clear_wait};
+ghost use Rattle.cells.specs.Waits.{next_ticket, put_next, ticket_at, mode_at, owner_at, clock_at, timeout_at};
+ghost use Rattle.cells.specs.Waits.{count_at, alert_at, list_of, names_of, has, names_at, clear_wait};
 ghost use Rattle.cells.specs.Calls.{empty_object, ticket_place, made_cells, put_header, put_list, queue_cells};
 ghost use Rattle.cells.specs.Fold.{or_below, cell_from};
 ghost use Rattle.cells.specs.Validity.{unused_zero, valid_free};
@@ -136,8 +138,8 @@ pub fn put_next(t: &mut Cells, next: u64)
     t[0] = next;
 }
 
-// kept: a place is a number, and `p < wait_places` a clause. With a struct for it every loop over the places would wrap its
-// number, as `ticket_at(t, Place { p })`, and every contract take it out again.
+// kept: a place is a number, and `p < wait_places` a clause. With a struct for it every loop over the places would wrap
+// its number, as `ticket_at(t, Place { p })`, and every contract take it out again.
 
 // Cell j of a wait place.
 pub fn wait_cell(t: &Cells, p: usize, j: usize) -> u64
@@ -289,9 +291,7 @@ pub fn put_list(t: &mut Cells, p: usize, list: &[u64])
     ensures { t.new ≡ put_list t.old p list.now }
 {
     let base = WAITS_BASE + WAIT_SIZE * p + HEADER_SIZE;
-    for (k, h) in list.iter().enumerate() {
-        t[base + k] = *h;
-    }
+    t[base..base + list.len()].copy_from_slice(list);
 }
 
 // A wait at empty place p, under the next ticket, which rises by one.
@@ -317,11 +317,7 @@ fn bits_of(t: &[u64], a: usize, n: usize) -> u64
     requires { a + n ≤ length t.now }
     ensures { result ≡ or_below (cell_from t.now a) n }
 {
-    let mut x = 0;
-    for k in 0..n {
-        x = x | t[a + k];
-    }
-    x
+    t[a..a + n].iter().fold(0, |x, cell| x | cell)
 }
 
 // A wait's list is zero from its end on.

@@ -72,7 +72,7 @@ fn act(t: &mut Cells, terms: Terms, list: &[u64], time: u64) -> Result<Outcome, 
     }
 }
 
-// The list's numbers, wider.
+// The list's numbers, wider. kept: stored by index, since after `wide.iter_mut().zip(list)` no proof knows an element
 fn widen(list: &[u32]) -> [u64; tables::MAX_LISTED]
     requires { length list.now ≤ max_listed }
     ensures { take (length list.now) result ≡ list.now }

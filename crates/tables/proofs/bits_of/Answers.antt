@@ -1,11 +1,13 @@
-use Rattle.cells.proofs.Fold.{fold_none, fold_more}
-use Rattle.cells.specs.Fold.{cell_from}
+use Prim.Native.Nat.{◌+◌, ◌-◌}
+use mathlib.Core.Path.{◌≡◌}
 use lib.Bits.{bit_or}
-use Prim.Native.Nat.{ℕ}
+use lib.ListN.{take, drop}
+use Rattle.std.specs.List.{fold}
+use Rattle.std.proofs.Common.{rules}
+use Rattle.tables.proofs.Laws.{ored}
 use Rattle.tables.proofs.bits_of.Goals as goal
 
-pub loop-k-init : goal.loop-k-init
-loop-k-init c = fold_none (λ (x : ℕ) i. bit_or x (cell_from c.args.t.now c.args.a i)) 0
-
-pub loop-k-preserved : goal.loop-k-preserved
-loop-k-preserved c = let s = c.args in cc (fold_more (λ (x : ℕ) i. bit_or x (cell_from s.t.now s.a i)) 0 c.loop-k.k)
+pub returns : goal.returns
+returns c = let a = c.args in
+    let e : c.fold.result ≡ fold bit_or 0 (take ((a.a + a.n) - a.a) (drop a.a a.t.now)) = search rules in
+    ored a.t.now a.a a.n c.requires e

@@ -1,7 +1,0 @@
-use Rattle.std.proofs.Common.{◌≡◌, ◌≤◌, ltb}
-use Rattle.cells.specs.Waits.{ticket_at}
-use Rattle.snapshot.proofs.Laws.{counted}
-use Rattle.snapshot.proofs.wait_total.Given as goal
-
-abbrev pub invariant-loop-p : goal.invariant-loop-p
-invariant-loop-p l = (l.total ≤ l.p) × (l.total ≡ counted (λ i. ltb 0 (ticket_at l.t i)) l.p)
