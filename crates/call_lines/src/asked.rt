@@ -1,5 +1,5 @@
-// The calls that neither wait nor wake, each with its line: the call and its arguments, the answer, the numbers with it, and
-// for a call that is lent the tables for writing whether a cell changed.
+// The calls that neither wait nor wake, each with its line: the call and its arguments, the answer, the numbers with
+// it, and for a call that is lent the tables for writing whether a cell changed.
 use crate::memory::Tables;
 use crate::told::Told;
 use std::io;

@@ -1,5 +1,5 @@
-// Cells by the numbers of docs/LAYOUT.md, and cells written. Only the program knows these numbers a second time: it writes
-// into the tables what no call can.
+// Cells by the numbers of docs/LAYOUT.md, and cells written. Only the program knows these numbers a second time: it
+// writes into the tables what no call can.
 ghost use Rattle.std.specs.Prelude.{◌≤◌};
 
 use crate::verdict::altered;
@@ -11,8 +11,8 @@ pub const TABLE_LENGTH: usize = 4321;
 // Lent by length, so that no caller has to prove that a call leaves it.
 pub type Cells = [u64; TABLE_LENGTH];
 
-// The tables of a case, by value: a call takes them and gives them back. To prove a row of such calls takes a third of the time
-// that it takes where each is lent them.
+// The tables of a case, by value: a call takes them and gives them back. To prove a row of such calls takes a third of
+// the time that it takes where each is lent them.
 #[derive(Clone, Copy)]
 pub struct Tables {
     pub cells: Cells,
@@ -20,6 +20,9 @@ pub struct Tables {
 
 // One cell more than the tables have, so that a slice that is too long can be lent too.
 pub const SPACE_LENGTH: usize = TABLE_LENGTH + 1;
+
+// The shortest buffer that a snapshot is written into.
+pub const BUFFER_LENGTH: usize = 65536;
 
 // The cells of an object place, in their order.
 #[derive(Clone, Copy)]
@@ -87,7 +90,8 @@ impl Cell {
     }
 }
 
-// Writes a row from the cell on, as far as the tables go: no caller has to prove a length, and a line of `stdout` would show it.
+// Writes a row from the cell on, as far as the tables go: no caller has to prove a length, and a line of `stdout` would
+// show it.
 pub fn put_row(t: &mut [u64], at: Cell, row: &[u64]) {
     for (cell, value) in t.iter_mut().skip(at.number()).zip(row) {
         *cell = *value;

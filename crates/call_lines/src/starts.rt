@@ -1,5 +1,5 @@
 // What several cases begin with.
-use crate::memory::{Cell, Tables};
+use crate::memory::{Cell, Cells, Tables};
 use crate::waiting::{Terms, any_on};
 use std::io;
 
@@ -9,14 +9,37 @@ const QUEUED: u32 = 11;
 const WAIT_PLACES: u32 = 32;
 
 impl Tables {
-    // How many waits for any of the list in a row are queued, at most 32.
-    pub fn queue_many(self, rt: &impl Print, list: &[u32], terms: Terms) -> io::Result<Self> {
+    // Calls with 1, 2, 3 and on, at most n, until one gives false. The line says how many gave true.
+    pub fn in_a_row<F: FnMut(&mut Cells, u32) -> bool>(
+        self,
+        rt: &impl Print,
+        label: &str,
+        n: u32,
+        mut call: F,
+    ) -> io::Result<Self>
+        requires { F.IsAlwaysCallable call }
+    {
         let mut cells = self.cells;
-        let queued = (0..WAIT_PLACES)
-            .take_while(|_| any_on(&mut cells, list, terms).answer == QUEUED)
-            .count();
-        println!(rt; "queued in a row: {queued}")?;
+        let mut row = 0;
+        // kept a loop: what `take_while(..).count()` asks of a closure that calls `call` does not prove.
+        for i in 1..=n {
+            if !call(&mut cells, i) {
+                break;
+            }
+            row = i;
+        }
+        println!(rt; "{label}: {row}")?;
         Ok(Self { cells })
+    }
+
+    // Waits for any of the list, as many as are queued, at most 32.
+    pub fn queue_many(self, rt: &impl Print, list: &[u32], terms: Terms) -> io::Result<Self> {
+        self.in_a_row(
+            rt,
+            "queued in a row",
+            WAIT_PLACES,
+            |cells, _| any_on(cells, list, terms).answer == QUEUED,
+        )
     }
 
     pub fn fill_queue(self, rt: &impl Print) -> io::Result<Self> {

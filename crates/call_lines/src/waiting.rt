@@ -1,5 +1,5 @@
-// The two waits, each with its line: the list and the other arguments, then the answer, the index, the ticket, and whether a
-// cell of the tables changed.
+// The two waits, each with its line: the list and the other arguments, then the answer, the index, the ticket, and
+// whether a cell of the tables changed.
 use crate::memory::Tables;
 use crate::told::Told;
 use ntsync::Waited;
@@ -84,6 +84,7 @@ impl fmt::Display for Terms {
 }
 
 // The calls themselves, for any tables.
+// kept: they unpack Terms for the public calls, whose arguments are those of the C interface.
 pub fn any_on(t: &mut [u64], list: &[u32], w: Terms) -> Waited {
     ntsync::wait_any(t, list, w.owner, w.alert, w.flags, w.pad, w.timeout, w.time)
 }

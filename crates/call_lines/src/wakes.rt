@@ -1,5 +1,5 @@
-// The six calls that wake, asked one after another on one line: each with its answer, the number with it and how many waits
-// were woken. The tables and the wake list may have any length.
+// The six calls that wake, asked one after another on one line: each with its answer, the number with it and how many
+// waits were woken. The tables and the wake list may have any length.
 use crate::told::Told;
 use crate::waiting::NEVER;
 use std::io;

@@ -1,5 +1,5 @@
-// The calls that wake, each with its line: the answer, the number with it, how many waits were woken, a record (ticket answer
-// index) for each, whether a cell of the tables changed, and whether the wake list behind the records was left.
+// The calls that wake, each with its line: the answer, the number with it, how many waits were woken, a record (ticket
+// answer index) for each, whether a cell of the tables changed, and whether the wake list behind the records was left.
 ghost use Rattle.std.specs.Prelude.{◌≡◌, true, ◌↔◌};
 ghost use Rattle.call_lines.specs.Kept.{Kept};
 
@@ -17,6 +17,7 @@ pub type WakeList = [u64; WAKE_LENGTH];
 pub const UNTOUCHED: u64 = 777;
 
 // Whether every cell from `from` on holds UNTOUCHED.
+// kept beside `is_filled`: its contract names the number, 777.
 pub fn is_untouched(wake: &[u64], from: usize) -> bool
     ensures { (result ≡ true) ↔ Kept 777 wake.now from }
 {

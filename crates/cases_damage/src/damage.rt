@@ -1,5 +1,6 @@
-// Damaged tables: for each line of "Sound tables" in document 01 one cell that breaks it, or two where a second line would
-// break as well. All calls but making are asked; each must answer 9 with zeros and leave every cell, of the wake list too.
+// Damaged tables: for each line of "Sound tables" in document 01 one cell that breaks it, or two where a second line
+// would break as well. All calls but making are asked; each must answer 9 with zeros and leave every cell, of the wake
+// list too.
 use call_lines::memory::Cell::{Object, Wait};
 use call_lines::memory::ObjectCell::{Attribute, Count, Kind, Owner};
 use call_lines::memory::WaitCell::{Alert, Clock, Listed, Mode, Ticket, Timeout};
@@ -72,8 +73,8 @@ fn put_wait(t: &mut Cells, place: u8, row: &[u64]) {
     put_row(t, Wait(place, Ticket), row);
 }
 
-// A wait for any may name a handle twice, as its alert too. The list of 64 stands before a ticket that is a handle in use,
-// so that a count of 65 breaks nothing but the limit.
+// A wait for any may name a handle twice, as its alert too. The list of 64 stands before a ticket that is a handle in
+// use, so that a count of 65 breaks nothing but the limit.
 fn sound() -> Cells {
     let mut t = [0; TABLE_LENGTH];
     put_objects(&mut t);

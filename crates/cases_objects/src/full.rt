@@ -13,14 +13,14 @@ fn create_some(t: &mut Cells, i: u32) -> u32 {
     }
 }
 
-// How many creations in a row gave the handles 1, 2, 3 and on.
+// Objects, as many as get the handles 1, 2, 3 and on.
 fn filled(rt: &impl Print) -> io::Result<Tables> {
-    let mut cells = Tables::new().cells;
-    let created = (1..=PLACES)
-        .take_while(|i| create_some(&mut cells, *i) == *i)
-        .count();
-    println!(rt; "created in a row: {created}")?;
-    Ok(Tables { cells })
+    Tables::new().in_a_row(
+        rt,
+        "created in a row",
+        PLACES,
+        |cells, i| create_some(cells, i) == i,
+    )
 }
 
 // A bad argument is refused before the lack of room.

@@ -2,29 +2,27 @@
 use call_lines::memory::Tables;
 use std::io;
 
-const MOST: u32 = u32::MAX;
-
 fn semaphores(rt: &impl Print, t: Tables) -> io::Result<Tables> {
     t.create_semaphore(rt, 2, 1)?
         .create_semaphore(rt, 1, 0)?
         .create_semaphore(rt, 0, 0)?
-        .create_semaphore(rt, MOST, MOST - 1)?
-        .create_semaphore(rt, MOST, MOST)?
+        .create_semaphore(rt, u32::MAX, u32::MAX - 1)?
+        .create_semaphore(rt, u32::MAX, u32::MAX)?
         .read_semaphore(rt, 1)?
         .create_semaphore(rt, 0, 1)?
         .read_semaphore(rt, 2)?
-        .create_semaphore(rt, 0, MOST)?
+        .create_semaphore(rt, 0, u32::MAX)?
         .read_semaphore(rt, 3)
 }
 
 fn mutexes(rt: &impl Print, t: Tables) -> io::Result<Tables> {
     t.create_mutex(rt, 0, 1)?
         .create_mutex(rt, 1, 0)?
-        .create_mutex(rt, 0, MOST)?
-        .create_mutex(rt, MOST, 0)?
+        .create_mutex(rt, 0, u32::MAX)?
+        .create_mutex(rt, u32::MAX, 0)?
         .create_mutex(rt, 0, 0)?
         .read_mutex(rt, 4)?
-        .create_mutex(rt, MOST, MOST)?
+        .create_mutex(rt, u32::MAX, u32::MAX)?
         .read_mutex(rt, 5)
 }
 
@@ -34,7 +32,7 @@ fn events(rt: &impl Print, t: Tables) -> io::Result<Tables> {
         .read_event(rt, 6)?
         .create_event(rt, 0, 7)?
         .read_event(rt, 7)?
-        .create_event(rt, MOST, MOST)?
+        .create_event(rt, u32::MAX, u32::MAX)?
         .read_event(rt, 8)
 }
 

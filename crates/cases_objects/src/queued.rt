@@ -1,5 +1,5 @@
-// A queued wait, written into the cells: its ticket and cells are then known without any call. Ticket 5 waits for any of
-// handle 1, a semaphore, with handle 2, an event, as its alert.
+// A queued wait, written into the cells: its ticket and cells are then known without any call. Ticket 5 waits for any
+// of handle 1, a semaphore, with handle 2, an event, as its alert.
 use call_lines::memory::{Cell, ObjectCell, Tables, WaitCell};
 use call_lines::waiting::NEVER;
 use std::io;

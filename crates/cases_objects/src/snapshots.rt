@@ -1,27 +1,22 @@
-// The snapshot's text (document 01: the picture): its bytes, its length and the buffer behind it, and what is refused. Every
-// buffer is full of one byte before the call, so that a byte written past the text shows.
+// The snapshot's text (document 01: the picture): its bytes, its length and the buffer behind it, and what is refused.
+// Every buffer is full of one byte before the call, so that a byte written past the text shows.
 ghost use Rattle.std.specs.Prelude.{◌≡◌, true, ◌↔◌};
 ghost use Rattle.call_lines.specs.Kept.{Kept};
 
-use call_lines::memory::{Cell, Cells, TABLE_LENGTH, Tables, put};
+use call_lines::memory::{BUFFER_LENGTH, Cell, Cells, TABLE_LENGTH, Tables, put};
 use call_lines::verdict::{is_filled, rest};
 use call_lines::waiting::{MONOTONIC, NEVER, REAL_TIME, Terms};
 use ntsync::Written;
 use std::io;
 use std::io::Write;
 
-// The shortest buffer that is taken.
-const BUFFER_LENGTH: usize = 65536;
-
 // In every byte of a buffer before the call: '#', which stands in no snapshot.
 const SENTINEL: u8 = b'#';
-
-// The largest owner and count.
-const CEILING: u32 = u32::MAX;
 
 // ---- the call and its line
 
 // Whether every byte from `from` on is the sentinel.
+// kept beside `is_filled`: its contract names the number, 35.
 fn is_kept(buffer: &[u8], from: usize) -> bool
     ensures { (result ≡ true) ↔ Kept 35 buffer.now from }
 {
@@ -63,7 +58,7 @@ fn objects(rt: &impl Print) -> io::Result<Tables> {
         .create_semaphore(rt, 0, 3)?
         .create_mutex(rt, 5, 1)?
         .create_event(rt, 1, 1)?
-        .create_mutex(rt, 8, CEILING)?
+        .create_mutex(rt, 8, u32::MAX)?
         .create_event(rt, 0, 0)?
         .create_event(rt, 1, 0)?
         .close(rt, 3)?
@@ -73,7 +68,7 @@ fn objects(rt: &impl Print) -> io::Result<Tables> {
 // Freed places are taken again: in the order of places stand the tickets 6, 2, 7, none, 5.
 fn queued(rt: &impl Print, t: Tables) -> io::Result<Tables> {
     let real_time = Terms::of(10).until(REAL_TIME, 100, 99).alerted(5);
-    let ceiling = Terms::of(CEILING).until(MONOTONIC, 1, 0).alerted(5);
+    let ceiling = Terms::of(u32::MAX).until(MONOTONIC, 1, 0).alerted(5);
     t.any(rt, &[1], 9)?
         .wait_any(rt, &[5, 4, 5], real_time)?
         .all(rt, &[2, 1], 11)?
@@ -129,20 +124,20 @@ fn newly_made(rt: &impl Print) -> io::Result<()> {
 
 // ---- the longest text
 
-// How many creations in a row gave the handles 1, 2, 3 and on, at most 511.
+// Mutexes, as many as get the handles 1, 2, 3 and on, at most 511.
 fn full_mutexes(rt: &impl Print) -> io::Result<Tables> {
-    let mut cells = Tables::new().cells;
-    let created = (1..=511)
-        .take_while(|i| ntsync::create_mutex(&mut cells, CEILING, CEILING).handle == *i)
-        .count();
-    println!(rt; "full mutexes created in a row: {created}")?;
-    Ok(Tables { cells })
+    Tables::new().in_a_row(
+        rt,
+        "full mutexes created in a row",
+        511,
+        |cells, i| ntsync::create_mutex(cells, u32::MAX, u32::MAX).handle == i,
+    )
 }
 
-// Every number has as many digits as it can have; the event of handle 512 is every wait's alert and all of its list. The waits
-// spend the last 32 tickets.
+// Every number has as many digits as it can have; the event of handle 512 is every wait's alert and all of its list.
+// The waits spend the last 32 tickets.
 fn longest_text(rt: &impl Print) -> io::Result<Tables> {
-    let terms = Terms::of(CEILING).alerted(512);
+    let terms = Terms::of(u32::MAX).alerted(512);
     full_mutexes(rt)?
         .create_event(rt, 0, 0)?
         .put_next(rt, "next ticket", NEVER - 32)?

@@ -7,8 +7,6 @@ use call_lines::wakes::Targets;
 use call_lines::woken::{UNTOUCHED, is_untouched};
 use std::io;
 
-const MOST: u32 = u32::MAX;
-
 // Handles: 1 unset auto event, 2 mutex of owner 5, 3 set manual event, 4 semaphore; place 5 is empty.
 fn objects(rt: &impl Print) -> io::Result<Tables> {
     Tables::new()
@@ -30,7 +28,7 @@ fn lengths(rt: &impl Print, t: Tables) -> io::Result<Tables> {
 }
 
 // No handle, no place, and an empty place.
-const BAD_HANDLES: [u32; 4] = [0, 513, MOST, 5];
+const BAD_HANDLES: [u32; 4] = [0, 513, u32::MAX, 5];
 
 // A bad handle is refused behind a signaled object too.
 fn handles(rt: &impl Print, mut t: Tables) -> io::Result<Tables> {
@@ -50,7 +48,7 @@ fn with(rt: &impl Print, t: Tables, terms: Terms) -> io::Result<Tables> {
 
 // A semaphore, a mutex, no event, and at last an event.
 fn alerts(rt: &impl Print, mut t: Tables) -> io::Result<Tables> {
-    for alert in [4, 2, 513, 5, MOST, 1] {
+    for alert in [4, 2, 513, 5, u32::MAX, 1] {
         t = with(rt, t, Terms::of(7).alerted(alert))?;
     }
     Ok(t)
@@ -58,16 +56,16 @@ fn alerts(rt: &impl Print, mut t: Tables) -> io::Result<Tables> {
 
 fn numbers(rt: &impl Print, mut t: Tables) -> io::Result<Tables> {
     let terms = Terms::of(7);
-    for flags in [2, 3, MOST] {
+    for flags in [2, 3, u32::MAX] {
         t = with(rt, t, Terms { flags, ..terms })?;
     }
-    for pad in [1, MOST] {
+    for pad in [1, u32::MAX] {
         t = with(rt, t, Terms { pad, ..terms })?;
     }
     let t = with(rt, t, Terms::of(0))?;
     let real_time = Terms {
         flags: 1,
-        ..Terms::of(MOST)
+        ..Terms::of(u32::MAX)
     };
     with(rt, t, real_time)
 }
@@ -200,20 +198,20 @@ fn maximum(rt: &impl Print, t: Tables) -> io::Result<Tables> {
     t.post(rt, 4, 4)?
         .post(rt, 4, 3)?
         .post(rt, 4, 1)?
-        .post(rt, 4, MOST)?
+        .post(rt, 4, u32::MAX)?
         .post(rt, 4, 0)?
-        .create_semaphore(rt, MOST, MOST)?
+        .create_semaphore(rt, u32::MAX, u32::MAX)?
         .post(rt, 5, 1)?
-        .post(rt, 5, MOST)?
+        .post(rt, 5, u32::MAX)?
         .post(rt, 5, 0)?
         .close(rt, 5)
 }
 
 fn wrong_kind(rt: &impl Print, t: Tables) -> io::Result<Tables> {
-    t.post(rt, 1, MOST)?
+    t.post(rt, 1, u32::MAX)?
         .unlock(rt, 1, 6)?
         .kill_owner(rt, 1, 6)?
-        .post(rt, 2, MOST)?
+        .post(rt, 2, u32::MAX)?
         .set(rt, 2)?
         .pulse(rt, 2)?
         .unlock(rt, 4, 6)?
@@ -224,7 +222,7 @@ fn wrong_kind(rt: &impl Print, t: Tables) -> io::Result<Tables> {
 
 // The additions and owners would be refused too, after the kind.
 fn no_object(rt: &impl Print, t: Tables, handle: u32) -> io::Result<Tables> {
-    t.post(rt, handle, MOST)?
+    t.post(rt, handle, u32::MAX)?
         .unlock(rt, handle, 6)?
         .kill_owner(rt, handle, 6)?
         .set(rt, handle)?

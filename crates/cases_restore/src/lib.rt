@@ -1,13 +1,11 @@
-// A snapshot read back (change request 3/13): accepted texts, and refused ones with their offsets. Each text is the library's
-// own, whole, cut, or with one byte changed.
+// A snapshot read back (change request 3/13): accepted texts, and refused ones with their offsets. Each text is the
+// library's own, whole, cut, or with one byte changed.
 #![tactic(auto)]
 
-use call_lines::memory::{Cell, Cells, ObjectCell, TABLE_LENGTH, Tables};
+use call_lines::memory::{BUFFER_LENGTH, Cell, Cells, ObjectCell, TABLE_LENGTH, Tables};
 use call_lines::told::Told;
 use call_lines::verdict::{altered, same, yes};
 use std::io;
-
-const BUFFER_LENGTH: usize = 65536;
 
 // Where a text stands, from the front on.
 type Buffer = [u8; BUFFER_LENGTH];
@@ -30,10 +28,14 @@ fn read(rt: &impl Print, t: Tables, text: &[u8]) -> io::Result<Tables> {
 
 // A copy of the text with one byte changed.
 fn with<'a>(text: &[u8], at: usize, byte: u8, buffer: &'a mut Buffer) -> &'a [u8] {
-    for (i, (to, from)) in buffer.iter_mut().zip(text).enumerate() {
-        *to = if i == at { byte } else { *from };
+    let Some(copy) = buffer.get_mut(..text.len()) else {
+        return &[];
+    };
+    copy.copy_from_slice(text);
+    if let Some(changed) = copy.get_mut(at) {
+        *changed = byte;
     }
-    buffer.get(..text.len()).unwrap_or(&[])
+    copy
 }
 
 fn read_changed(

@@ -1,5 +1,5 @@
-// Waits and the calls that wake: document 01's readings, the slips that it names, the limits of the queue, the clocks, and
-// change request 1/13's waits for no objects.
+// Waits and the calls that wake: document 01's readings, the slips that it names, the limits of the queue, the clocks,
+// and change request 1/13's waits for no objects.
 #![tactic(auto)]
 
 use std::io;

@@ -6,14 +6,14 @@ use std::io;
 
 // ---- many calls in a row
 
-// How many creations in a row gave the handles 1, 2, 3 and on, at most n.
+// Semaphores, as many as get the handles 1, 2, 3 and on, at most n.
 fn created(rt: &impl Print, n: u32) -> io::Result<Tables> {
-    let mut cells = Tables::new().cells;
-    let created = (1..=n)
-        .take_while(|i| ntsync::create_sem(&mut cells, 0, 1).handle == *i)
-        .count();
-    println!(rt; "created in a row: {created}")?;
-    Ok(Tables { cells })
+    Tables::new().in_a_row(
+        rt,
+        "created in a row",
+        n,
+        |cells, i| ntsync::create_sem(cells, 0, 1).handle == i,
+    )
 }
 
 // Whether the post was taken and woke nobody.
@@ -22,12 +22,9 @@ fn is_posted(t: &mut Cells, handle: u32) -> bool {
     r.answer == 0 && r.woken == 0
 }
 
-// How many posts in a row, to the handles 1, 2, 3 and on, at most n.
+// Posts to the handles 1, 2, 3 and on, at most n, until one is refused or wakes a wait.
 fn posted(rt: &impl Print, t: Tables, n: u32) -> io::Result<Tables> {
-    let mut cells = t.cells;
-    let posted = (1..=n).take_while(|i| is_posted(&mut cells, *i)).count();
-    println!(rt; "posts in a row that woke nobody: {posted}")?;
-    Ok(Tables { cells })
+    t.in_a_row(rt, "posts in a row that woke nobody", n, is_posted)
 }
 
 // ---- 32 waits

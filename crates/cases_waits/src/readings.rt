@@ -3,8 +3,6 @@ use call_lines::memory::Tables;
 use call_lines::waiting::{MONOTONIC, NEVER, Terms};
 use std::io;
 
-const MOST: u32 = u32::MAX;
-
 fn reading(rt: &impl Print, number: u32) -> io::Result<Tables> {
     println!(rt; "P{number}")?;
     Ok(Tables::new())
@@ -65,7 +63,7 @@ fn mutexes(rt: &impl Print) -> io::Result<()> {
         .kill_owner(rt, 1, 5)?
         .read_mutex(rt, 1)?;
     reading(rt, 9)?
-        .create_mutex(rt, 5, MOST)?
+        .create_mutex(rt, 5, u32::MAX)?
         .any(rt, &[1], 5)?
         .unlock(rt, 1, 5)?
         .read_mutex(rt, 1)?;
