@@ -74,8 +74,8 @@ fn settle(
 
 // ---- the walk
 
-// After object h has changed: the queued waits once, lowest ticket first. Those whose list or alert names h are tried against
-// the objects as they then stand. How many were served and told.
+// After object h has changed: the queued waits once, lowest ticket first. Those whose list or alert names h are tried
+// against the objects as they then stand. How many were served and told.
 pub fn wake(t: &mut Cells, wake: &mut [u64], h: u64) -> usize
     requires { wake_length ≤ length wake.old }
     ensures { (walked result t.new wake.new ≡ wake_cells t.old h wake.old) × (result ≤ wait_places) }
@@ -98,7 +98,8 @@ pub fn wake(t: &mut Cells, wake: &mut [u64], h: u64) -> usize
             continue 'waits;
         }
         let n = tables::count_at(t, p);
-        // kept: nested labelled loops are document 01's form of this look; by index, since the tables change where it is left
+        // kept: nested labelled loops are document 01's form of this look; by index, since the tables change where it
+        // is left
         for i in 0..n {
             let x = tables::listed(t, p, i);
             let here = attempt::signaled(t, w.terms.owner, x);
