@@ -1,5 +1,5 @@
-// The calls that wake nobody, each behind its refusals, in their order. Reading takes valid tables: their objects' numbers
-// have 32 bits.
+// The calls that wake nobody, each behind its refusals, in their order. Reading takes valid tables: their objects'
+// numbers have 32 bits.
 #![tactic(auto)]
 
 ghost use Rattle.std.specs.Prelude.{◌≡◌, ◌<◌, true, false};
@@ -60,7 +60,8 @@ pub fn close(t: &mut Cells, h: u64) -> Result<(), Refusal>
     Ok(())
 }
 
-// The count and the attribute of an object of this kind. kept: the two calls below say of which, for their own contracts
+// The count and the attribute of an object of this kind. kept: the two calls below say of which, for their own
+// contracts
 fn read_pair(t: Sound, h: u64, kind: Kind) -> Result<(u32, u32), Refusal>
     ensures { left_by numbers result t.entry.cells.now ≡ read_pair (cell_of kind) h t.entry.cells.now nothing_lent }
 {

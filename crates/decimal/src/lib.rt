@@ -63,8 +63,8 @@ fn digit_count(n: u64) -> usize
     if n == 0 { 1 } else { n.ilog10() as usize + 1 }
 }
 
-// The digits of n with no leading zeros, from the last one on, each straight to its place. kept: a loop by hand, since one over
-// the digits' places, `for place in (at..end).rev()`, is unrolled by the compiler and half as slow again (docs/DECISIONS.md, 41).
+// The digits of n with no leading zeros, from the last one on, each straight to its place. kept: a loop by hand, since
+// one over the digits' places is unrolled by the compiler, and a snapshot half as slow again (docs/DECISIONS.md, 41).
 fn put_number(buf: &mut [u8], at: usize, n: u64) -> usize
     requires { Room buf.old at (digits_up_to 19 n) }
     ensures { Wrote buf.old at (digits_up_to 19 n) result buf.new }

@@ -81,9 +81,9 @@ pub struct Record {
     pub index: u64,
 }
 
-// Record k of a wake list.
-// kept: here, in `walk` and in `signals` a wake list is a slice, and its least length a clause. As an array of the first 96 cells
-// it would need a law that the walk leaves the others; as a struct three clauses (whose list, what is told, how many).
+// Record k of a wake list. kept: here, in `walk` and in `signals` a wake list is a slice, and its least length a
+// clause. As an array of the first 96 cells it would need a law that the walk leaves the others; as a struct three
+// clauses (whose list, what is told, how many).
 pub fn put_record(wake: &mut [u64], k: usize, r: Record)
     requires { (k < wait_places) × (wake_length ≤ length wake.old) }
     ensures { wake.new ≡ put_record wake.old k r.ticket r.answer r.index }
@@ -106,7 +106,8 @@ pub fn leave(t: &mut Cells, wake: &mut [u64], p: usize, k: usize, r: Record)
 // Every wait on this clock whose time is up ends with 5, lowest ticket first; how many.
 pub fn end_due(t: &mut Cells, wake: &mut [u64], clock: u64, time: u64) -> usize
     requires { wake_length ≤ length wake.old }
-    ensures { (walked result t.new wake.new ≡ end_cells wait_places clock time (walked 0 t.old wake.old)) × (result ≤ wait_places) }
+    ensures { (walked result t.new wake.new ≡ end_cells wait_places clock time (walked 0 t.old wake.old))
+        × (result ≤ wait_places) }
 {
     for k in 0..tables::WAIT_PLACES {
         let Some(p) = next_due(t, clock, time) else {

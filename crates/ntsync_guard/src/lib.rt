@@ -1,4 +1,5 @@
-// What the public calls share: the test of the tables, and for calls that write also that of the wake list, before their work.
+// What the public calls share: the test of the tables, and for calls that write also that of the wake list, before
+// their work.
 #![tactic(auto)]
 
 ghost use Rattle.std.specs.Prelude.{◌≡◌, List, ℕ, Result};
@@ -24,13 +25,15 @@ pub fn sound(tables: &[u64]) -> Result<Sound, Refusal>
     }
 }
 
-// A call's work on valid tables; corrupt ones are refused before it. (`left` is what a result leaves, `rule` what it should.)
+// A call's work on valid tables; corrupt ones are refused before it. (`left` is what a result leaves, `rule` what it
+// should.)
 pub fn guarded<R, F: FnOnce(&mut Cells) -> Result<R, Refusal>>(
     tables: &mut [u64],
     work: F,
 ) -> Result<R, Refusal>
     requires { OnSound (F.pre work) }
-    ensures { (left : Result R Refusal → List ℕ → Left) (rule : List ℕ → Left) → Refuses left → Does (F.post work) left rule
+    ensures { (left : Result R Refusal → List ℕ → Left) (rule : List ℕ → Left) → Refuses left
+        → Does (F.post work) left rule
         → left result tables.new ≡ guarded nothing_lent tables.old (rule tables.old) }
 {
     let Some(t) = tables.as_mut_array() else {

@@ -1,5 +1,5 @@
-// The calls that wake: an object's change is stored and the walk follows; and expire. A long enough wake list is asked for, and
-// valid tables where a number is handed back: the public calls have tested both.
+// The calls that wake: an object's change is stored and the walk follows; and expire. A long enough wake list is asked
+// for, and valid tables where a number is handed back: the public calls have tested both.
 #![tactic(auto)]
 
 ghost use Rattle.std.specs.Prelude.{◌≡◌, true, ◌≤◌, length, Ok};
@@ -64,8 +64,8 @@ fn apply(t: &mut Cells, wake: &mut [u64], h: u64, previous: u32, next: Object) -
     }
 }
 
-// kept: here, in `unlock`, `set` and `pulse`, and in `calls::reset`, valid tables are a clause, since the tables change: in a
-// struct as `validity::Sound`, which the reads take, they would have to be proved valid again.
+// kept: here, in `unlock`, `set` and `pulse`, and in `calls::reset`, valid tables are a clause, since the tables
+// change: in a struct as `validity::Sound`, which the reads take, they would have to be proved valid again.
 pub fn post(t: &mut Cells, wake: &mut [u64], h: u64, add: u64) -> Result<Woke, Refusal>
     requires { (valid_cells t.old ≡ true) × (wake_length ≤ length wake.old) }
     ensures { left_by result t.new wake.new ≡ signal_on (post add) h (named t.old h) t.old (wake_lent wake.old) }

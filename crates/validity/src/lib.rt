@@ -67,7 +67,8 @@ fn occupied_list(t: &Cells, list: &[u64]) -> bool
     ok
 }
 
-// The list's handles are occupied, and none of them is the alert or stands twice: one walk, with a flag for each number met.
+// The list's handles are occupied, and none of them is the alert or stands twice: one walk, with a flag for each number
+// met.
 fn occupied_once(t: &Cells, mode: u64, list: &[u64], alert: u64) -> bool
     requires { mode ≡ 0 → ⊥ }
     ensures { proper_alert t.now alert ≡ true → result ≡ proper_handles t.now mode list.now alert }
@@ -88,7 +89,8 @@ fn occupied_once(t: &Cells, mode: u64, list: &[u64], alert: u64) -> bool
     true
 }
 
-// A list for its mode, where the alert is a proper one: for any of no handles too (1/13), for all of one at least (house).
+// A list for its mode, where the alert is a proper one: for any of no handles too (1/13), for all of one at least
+// (house).
 pub fn proper_list(t: &Cells, mode: u64, list: &[u64], alert: u64) -> bool
     ensures { proper_alert t.now alert ≡ true → result ≡ proper_list t.now mode list.now alert }
 {
