@@ -13,13 +13,21 @@ use Rattle.model.specs.Snapshot.{digits_up_to}
 use Rattle.model.proofs.Digits.{digits_one, digits_more}
 use borrow.Rule.Slice.PartMut.{put_mid}
 use Rattle.decimal.specs.declared.Writer.{Writer}
-use Rattle.decimal.specs.Text.{Room}
+use Rattle.decimal.specs.Text.{Room, Wrote}
 use Rattle.decimal.specs.Writing.{HasRoom, Appended}
 use lib.Seq.{take-append_seam}
 
 sets_then : (buf x y : List ℕ) (at : ℕ) → sets (sets buf at x) (at + length x) y ≡ sets buf at (x ++ y)
 sets_then buf [] y at = rw (add-zero at)
 sets_then buf (b ∷ x) y at = let e : at + suc (length x) ≡ suc at + length x = omega arith in rw e (sets_then (set buf at b) x y (suc at))
+
+-- one text after another
+module _ (buf : List ℕ) (at : ℕ) (x y : List ℕ) {r : ℕ} {next : List ℕ} (w : Wrote buf at x r next) where
+  pub then_room : Room buf at (x ++ y) → Room next r y
+  then_room h = let e = length-append x y in let l : length next ≡ length buf = ap length w.0 ∙ length-sets buf at x in let p : r ≡ at + length x = w.1 in omega arith
+
+  pub then_wrote : {last : ℕ} {end : List ℕ} → Wrote next r y last end → Wrote buf at (x ++ y) last end
+  then_wrote v = (v.0 ∙ rw (w.0, w.1) (sets_then buf x y at), v.1 ∙ (let e = length-append x y in let p : r ≡ at + length x = w.1 in omega arith))
 
 pub appended_none : (w : Writer) → Appended w w []
 appended_none w = record { same = refl; wrote = (refl, sym (add-zero w.at)) }
@@ -28,7 +36,7 @@ module _ {w v u : Writer} (x y : List ℕ) (a : Appended w v x) where
   pub appended_then : Appended v u y → Appended w u (x ++ y)
   appended_then b = record {
     same = b.same ∙ a.same;
-    wrote = (b.wrote.0 ∙ rw (a.wrote.0, a.wrote.1) (sets_then w.buf.now x y w.at), b.wrote.1 ∙ (let e = length-append x y in let p : v.at ≡ w.at + length x = a.wrote.1 in omega arith));
+    wrote = then_wrote w.buf.now w.at x y a.wrote b.wrote;
   }
 
 -- WHAT IS LEFT TO WRITE of a whole text: there is room for it, and with it the whole is written
@@ -45,7 +53,7 @@ module _ {w₀ : Writer} {whole : List ℕ} {w : Writer} (x y : List ℕ) (d : D
 
   pub due_then : {v : Writer} → Appended w v x → Due w₀ whole v y
   due_then {v} a = record {
-    room = let e = length-append x y in let h = d.room.fits in let l : length v.buf.now ≡ length w.buf.now = ap length a.wrote.0 ∙ length-sets w.buf.now w.at x in let p : v.at ≡ w.at + length x = a.wrote.1 in record { fits = omega arith };
+    room = record { fits = then_room w.buf.now w.at x y a.wrote d.room.fits };
     done = λ b. d.done (appended_then x y a b);
   }
 
@@ -93,10 +101,23 @@ module _ (buf : List ℕ) (at place n : ℕ) (p : place + 1 ≡ at + length (dig
   digit_one h = let c = count_one n h in let e : place ≡ at = omega arith in rw (e, digits_one n h)
 
 -- what was written at the front of a buffer is its front
-module _ {w v : Writer} {x : List ℕ} (front : w.at ≡ 0) (room : HasRoom w x) (a : Appended w v x) where
-  pub front_is : take v.at v.buf.now ≡ x
-  front_is = let f = room.fits in let p : v.at ≡ length x = (let q : v.at ≡ w.at + length x = a.wrote.1 in omega arith) in
-      rw (p, a.wrote.0, front, sets-eq x w.buf.now 0 (let r : 0 + length x ≤ length w.buf.now = omega arith in r)) (take-append_seam x (drop (0 + length x) w.buf.now))
+module _ (buf x : List ℕ) (r : ℕ) (end : List ℕ) (room : Room buf 0 x) (w : Wrote buf 0 x r end) where
+  pub front_is : take r end ≡ x
+  front_is = let p : r ≡ length x = (let q : r ≡ 0 + length x = w.1 in omega arith) in rw (p, w.0, sets-eq x buf 0 room) (take-append_seam x (drop (0 + length x) buf))
 
-  pub front_within : v.at ≤ length v.buf.now
-  front_within = let f = room.fits in let p : v.at ≡ w.at + length x = a.wrote.1 in let q : length v.buf.now ≡ length w.buf.now = ap length a.wrote.0 ∙ length-sets w.buf.now w.at x in omega arith
+  pub front_room : r ≤ length end
+  front_room = let p : r ≡ 0 + length x = w.1 in let q : length end ≡ length buf = ap length w.0 ∙ length-sets buf 0 x in omega arith
+
+-- of a writer that began there
+module _ {w v : Writer} {x : List ℕ} (front : w.at ≡ 0) (room : HasRoom w x) (a : Appended w v x) where
+  fits : Room w.buf.now 0 x
+  fits = let f = room.fits in omega arith
+
+  wrote : Wrote w.buf.now 0 x v.at v.buf.now
+  wrote = (a.wrote.0 ∙ rw front, a.wrote.1 ∙ rw front)
+
+  pub written_front : take v.at v.buf.now ≡ x
+  written_front = front_is w.buf.now x v.at v.buf.now fits wrote
+
+  pub written_within : v.at ≤ length v.buf.now
+  written_within = front_room w.buf.now x v.at v.buf.now fits wrote

@@ -1,16 +1,16 @@
 -- What the rules come to on each way through the code.
-use Prim.Native.Nat.{ℕ, ◌<◌}
+use Prim.Native.Nat.{ℕ, ◌+◌, ◌<◌}
 use mathlib.Core.Path.{◌≡◌, refl, ap, sym, ◌∙◌}
 use mathlib.Core.Bool.{Bool, true, false, not, ◌&&◌, ◌||◌, cond, and_assoc, and-true, beq}
 use mathlib.Core.List.{List, [], ◌∷◌}
 use borrow.Author.Tests.{lt-ltb, le-ltb, leb-true, leb-false}
 use lib.Dec.{eqb, ltb, leb, leb-suc-suc}
 use Rattle.model.specs.Basics.{bit, all_of}
-use Rattle.model.specs.Sizes.{word32}
+use Rattle.model.specs.Sizes.{mutex_ceiling, word32}
 use Rattle.model.specs.Objects.{never_signaled}
 use Rattle.model.specs.Calls.{Kind, a_semaphore, a_mutex, an_event, bad_new}
 use Rattle.model.proofs.Logic.{by_bool, not_twice, not_or, one_or_more}
-use Rattle.cells.specs.Objects.{Fields, fields, no_fields, changed}
+use Rattle.cells.specs.Objects.{Fields, fields, no_fields, changed, acquired_fields}
 use Rattle.cells.specs.Validity.{valid_fields}
 use Rattle.cells.specs.Calls.{new_fields}
 use Rattle.std.specs.Bool.{then_some}
@@ -93,3 +93,8 @@ refuses Corrupt = refl
 refuses Busy = refl
 refuses ListShort = refl
 refuses NotASnapshot = refl
+
+-- a mutex gains one and takes the owner
+pub acquired_mutex : (asking : ℕ) (x : Fields) → x.kind ≡ 2 → x.count < mutex_ceiling → fields 2 (x.count + 1) asking 0 ≡ acquired_fields asking x
+unfolding acquired_fields
+acquired_mutex asking x k l = rw (k, lt-ltb x.count mutex_ceiling l)

@@ -6,12 +6,14 @@ use lib.Dec.{leb-zero}
 use borrow.Author.Tests.{lt-leb, eqb-true, eqb-false}
 use Rattle.std.specs.Cmp.Lexicographic.{pointwise}
 use Rattle.model.specs.Basics.{bit}
-use Rattle.model.specs.Snapshot.{ascii}
+use Rattle.model.specs.Snapshot.{ascii, line}
 use Rattle.model.specs.Reading.{Read, good, bad, by_read, Reader, ◌>>=◌, give, times, after, leading, number_line, word_line}
 use Rattle.model.proofs.Logic.{by_bool, by_option, differ, clash, and_split, eqb_same}
 use Rattle.model.proofs.Digits.{digits, digits_one, digits_more}
 use Rattle.model.proofs.ReadExactly.{number_exact, by_reading}
-use Rattle.lines.specs.Outcome.{either_of, figure, end_of, number_of}
+use Rattle.lines.specs.Outcome.{either_of, figure, end_of, number_of, Told}
+use Rattle.lines.specs.declared.NotDue.{NotDue}
+use Rattle.std.specs.Prelude.{Result, Ok, Err}
 
 -- A FRONT, by what `strip_prefix` tells
 pub strip_none : (front text : List ℕ) → pointwise eqb (take (length front) text) front ≡ false → after front text ≡ none
@@ -190,6 +192,11 @@ module _ (key : List ℕ) (low high : ℕ) (t : List ℕ) where
       pub in_range : low ≤ n → number_of key low high t ≡ good n rest
       in_range l = keyed ∙ rw (h, le-leb low n l)
 
+-- what code reads is a line of the meaning
+pub number_of_lem : (key : String) (low high : ℕ) (t : List ℕ) → number_line key low high t ≡ number_of (ascii key) low high t
+unfolding number_line number_of line
+number_of_lem key low high t = refl
+
 -- ONE READING AFTER ANOTHER, as code makes them
 module _ {A B : Type 0} (m : Reader A) (f : A → Reader B) (t : List ℕ) where
   pub seq_on : {a : A} {rest : List ℕ} → m t ≡ good a rest → (m >>= f) t ≡ f a rest
@@ -199,6 +206,13 @@ module _ {A B : Type 0} (m : Reader A) (f : A → Reader B) (t : List ℕ) where
   pub seq_stop : {from : List ℕ} → m t ≡ bad from → (m >>= f) t ≡ bad from
   unfolding ◌>>=◌
   seq_stop h = rw h
+
+-- what is told of a reading is told, by way of g, of it and what it gives
+module _ {A B C : Type 0} (m : Reader A) (f : C → A) (g : A → B) (t : List ℕ) where
+  pub seq_last : (rest : List ℕ) (r : Result C NotDue) → Told f (m t) rest r → Told (λ v. g (f v)) ((m >>= λ a. give (g a)) t) rest r
+  unfolding ◌>>=◌ give
+  seq_last rest (Ok v) h = rw h
+  seq_last rest (Err e) h = rw h
 
 -- two of them read as one
 module _ {A B C : Type 0} (m : Reader A) (f : A → Reader B) (g : B → Reader C) (t : List ℕ) where

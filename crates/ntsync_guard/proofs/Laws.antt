@@ -1,11 +1,12 @@
 -- From cells to the meaning: what a call leaves by the definitions of `cells` is what a host sees of its outcome.
 use Prim.Native.Nat.{ℕ, ◌<◌, ◌≤◌}
 use borrow.Author.Tests.{lt-ltb, le-ltb}
-use mathlib.Core.Path.{◌≡◌, sym, ap, ◌∙◌}
-use mathlib.Core.Bool.{true, false}
+use mathlib.Core.Path.{◌≡◌, refl, sym, ap, ◌∙◌}
+use mathlib.Core.Bool.{true, false, cond}
 use mathlib.Core.List.{List, [], ◌∷◌}
 use lib.ListN.{length}
-use Rattle.model.specs.Calls.{Operation, Lent, lend, wake_lent, asks}
+use lib.Dec.{ltb}
+use Rattle.model.specs.Calls.{Operation, Lent, lend, nothing_lent, wake_lent, asks}
 use Rattle.model.specs.Sizes.{wake_length}
 use Rattle.cells.specs.Validity.{valid_cells}
 use Rattle.ntsync_guard.specs.Work.{tested}
@@ -43,3 +44,15 @@ module _ (t : List ℕ) {u : List ℕ} (same : u ≡ t) where
 
     pub long_in : {s : Result} → valid_cells u ≡ true → wake_length ≤ length wake → s ≡ r → s ≡ tested t wake r
     long_in y l e = rw (← same, y, le-ltb (length wake) wake_length l) e
+
+-- which of the two tests of the calls that wake refuses: 9, then 12, or none
+abbrev pub tests : List ℕ → List ℕ → ℕ
+tests t wake = cond (valid_cells t) (cond (ltb (length wake) wake_length) 12 0) 9
+
+-- a call that nothing is lent but tables: refused where they are corrupt, and else its work
+module _ (op : Operation) (t : List ℕ) (w : Words t) where
+  pub corrupt : valid_cells t ≡ false → seen (table_step t (asks op nothing_lent)) ≡ shown (refused_with 9 t nothing_lent)
+  corrupt n = means op t nothing_lent w (corrupt_out t refl nothing_lent (on_cells op t nothing_lent) n)
+
+  pub served : {r : Result} → valid_cells t ≡ true → r ≡ on_cells op t nothing_lent → seen (table_step t (asks op nothing_lent)) ≡ shown r
+  served y e = means op t nothing_lent w (sound_in t refl nothing_lent y e)

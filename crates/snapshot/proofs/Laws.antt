@@ -23,7 +23,7 @@ use Rattle.model.specs.Sizes.{object_places, wait_places, word32}
 use Rattle.decimal.specs.declared.Writer.{Writer}
 use Rattle.decimal.specs.Text.{Room}
 use Rattle.decimal.specs.Writing.{HasRoom, Appended}
-use Rattle.decimal.proofs.Laws.{Due, due_all, due_first, due_then, appended_none, appended_then, front_is, front_within}
+use Rattle.decimal.proofs.Laws.{Due, due_all, due_first, due_then, appended_none, appended_then, written_front, written_within}
 
 -- texts end to end, by a counting loop
 abbrev pub text_below : (ℕ → List ℕ) → ℕ → List ℕ
@@ -123,11 +123,11 @@ module _ (t : List ℕ) {w : Writer} (front : w.at ≡ 0) (room : HasRoom w (sna
 
   module _ {v : Writer} (a : Appended w v (body_of t)) where
     pub body_within : v.at ≤ length v.buf.now
-    body_within = front_within front body_room a
+    body_within = written_within front body_room a
 
     module _ {sum : ℕ} (e : sum ≡ byte_sum (take v.at v.buf.now) % word32) where
       sum_is : sum ≡ byte_sum (body_of t) % word32
-      sum_is = e ∙ ap (λ (x : List ℕ). byte_sum x % word32) (front_is front body_room a)
+      sum_is = e ∙ ap (λ (x : List ℕ). byte_sum x % word32) (written_front front body_room a)
 
       pub sum_due : Due w (snapshot_of t) v (line "sum=" sum)
       unfolding snapshot_of
