@@ -2,7 +2,7 @@
 // own. A queued one's stands in the tables: a look reads it there, and `take_list`, which writes them, is lent a copy.
 #![tactic(auto)]
 
-ghost use Rattle.std.specs.Prelude.{◌≡◌, cond, length, Some};
+ghost use Rattle.std.specs.Prelude.{◌≡◌, length, Some};
 ghost use Rattle.model.specs.Calls.{time_up};
 ghost use Rattle.cells.specs.Attempt.{signaled_at, acquire_at, abandoned_at, look_any, look_all, acquire_first};
 ghost use Rattle.cells.specs.Attempt.{abandoned_first, take_one, take_all, by_alert, try_any, try_all, try_list};
@@ -19,15 +19,6 @@ pub struct Served {
     pub index: u64,
     // something acquired had been abandoned
     pub abandoned: bool,
-}
-
-impl Served {
-    // The number that C sees. kept: a number, for the C structs and the records
-    pub fn answer(self) -> u32
-        ensures { result ≡ cond self.abandoned 4 0 }
-    {
-        if self.abandoned { 4 } else { 0 }
-    }
 }
 
 // ---- time
@@ -152,7 +143,7 @@ fn try_all(t: &mut Cells, asking: u64, alert: u64, list: &[u64]) -> Option<Serve
     by_alert(t, asking, alert, list.len() as u64)
 }
 
-// Mode 0 is any.
+// Mode 0 is any. kept: a number, since `try_list` of cells takes any; all three are the wait's, its list apart
 pub fn try_list(t: &mut Cells, mode: u64, asking: u64, alert: u64, list: &[u64]) -> Option<Served>
     ensures { tried_by result t.new ≡ try_list t.old mode asking alert list.now }
 {

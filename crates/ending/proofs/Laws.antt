@@ -18,9 +18,9 @@ use Rattle.cells.specs.Walk.{due_at, walked, report, end_cells}
 use Rattle.cells.proofs.Fold.{fold_none, fold_more}
 
 -- one more place, by what the best so far is
-pub better_fails : (t : List ℕ) {passes : Bool} (best : Option ℕ) (i : ℕ) → passes ≡ false → (k : ℕ) → Found best k wait_places → Found best (better t (λ _. passes) k i) wait_places
+pub better_fails : (t : List ℕ) {passes : Bool} (best i : ℕ) → passes ≡ false → best ≡ better t (λ _. passes) best i
 unfolding better
-better_fails t best i e k f = rw e f
+better_fails t best i e = rw e
 
 pub better_lower : (t : List ℕ) {passes : Bool} (best : Option ℕ) (i : ℕ) → passes ≡ true → lower_than t i best ≡ true → (k : ℕ) → Found best k wait_places → i ≡ better t (λ _. passes) k i
 unfolding better

@@ -160,7 +160,7 @@ impl Object {
         })
     }
 
-    // An event set (1) or cleared (0).
+    // An event set (1) or cleared (0). kept: the cell's number, as `switch_fields` takes it
     #[tactic(auto, unfolding(cells::specs::Objects::switch_fields))]
     pub fn switch(self, to: u64) -> Result<Object, Refusal>
         ensures { changed_by (cells_of self) result ≡ switch_fields to (cells_of self) }

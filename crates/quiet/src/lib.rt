@@ -7,7 +7,7 @@ ghost use Rattle.cells.specs.Attempt.{list_serves, servable_at, ready_at, some_s
 
 use tables::Cells;
 
-// By its list. Mode 0 is any.
+// By its list. Mode 0 is any. kept: a number, since `list_serves` of cells takes any
 fn list_serves(t: &Cells, mode: u64, asking: u64, list: &[u64]) -> bool
     ensures { result ≡ list_serves t.now mode asking list.now }
 {

@@ -131,10 +131,6 @@ copied wide list i e l m = rw (add-one, take-suc-set wide i (get_or list i 0) l,
 pub listed_is : (t : List ℕ) (p i : ℕ) {x : ℕ} → length t ≡ table_length → p < wait_places → i < count_at t p → x ≡ in_wait t p (header_size + i) → x ≡ get_or (list_of t p) i 0
 listed_is t p i l h b e = e ∙ sym (list_at t l p h i b)
 
-pub copy_is : (t : List ℕ) (p i : ℕ) (copy : List ℕ) {list : List ℕ} → length t ≡ table_length → p < wait_places → list ≡ list_of t p → i ≡ length list → take i copy ≡ take i list → take (count_at t p) copy ≡ list_of t p
-copy_is t p i copy {list} l h e z c = let n : count_at t p ≡ i = sym (list_length t l p h) ∙ ap length (sym e) ∙ sym z in
-    rw n (c ∙ ap (λ (k : ℕ). take k list) z ∙ take-length list ∙ e)
-
 -- a list's own test, in the words of the meaning
 pub any_member : (list : List ℕ) (h : ℕ) → list_any (λ k. eqb k h) list ≡ member h list
 unfolding member

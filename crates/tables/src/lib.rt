@@ -35,7 +35,8 @@ const WAIT_SIZE: usize = HEADER_SIZE + MAX_LISTED;
 
 const WAITS_BASE: usize = 1 + OBJECT_SIZE * OBJECT_PLACES;
 
-// What a wait asks for, as its cells hold it. kept: mode and clock are numbers, since a damaged cell can hold any
+// What a wait asks for, as its cells hold it. kept: mode and clock are numbers, since a damaged cell can hold any; what
+// asks for `mode == 0` is equal to a definition of cells that takes any number.
 #[derive(Clone, Copy)]
 pub struct Terms {
     // 0 for any, 1 for all
@@ -84,6 +85,7 @@ pub fn put_object(t: &mut Cells, p: usize, o: Object)
     t[at + 3] = o.attribute;
 }
 
+// kept: `h - 1` at the two places below; a function to an `Option` of a place would be longer than both.
 fn is_handle(h: u64) -> bool
     ensures { result ≡ is_handle h }
 {
@@ -286,6 +288,7 @@ pub fn put_header(t: &mut Cells, p: usize, w: Header)
     t[at + 6] = w.terms.alert;
 }
 
+// kept: the lent list is a slice, and its length a clause: a list of C has any length, and no Vec is had (no heap).
 pub fn put_list(t: &mut Cells, p: usize, list: &[u64])
     requires { (p < wait_places) × (length list.now ≤ max_listed) }
     ensures { t.new ≡ put_list t.old p list.now }
@@ -307,7 +310,7 @@ pub fn queue(t: &mut Cells, p: usize, terms: Terms, list: &[u64])
     };
     put_header(t, p, w);
     put_list(t, p, list);
-    t[0] = ticket + 1;
+    put_next(t, ticket + 1);
 }
 
 // ---- cells that must be zero

@@ -75,9 +75,9 @@ to_last false a b c d = refl
 any_fails : (e a b c : Bool) → false ≡ (e && (a && (b && (false && c))))
 any_fails e a b c = rw (and-false b, and-false a, and-false e)
 
-pub names_valid : (t : List ℕ) (p : ℕ) {alert mode : ℕ} {list : List ℕ} {proper unused event : Bool} → alert ≡ alert_at t p → mode ≡ mode_at t p → list ≡ list_of t p → unused ≡ unused_zero t p (count_at t p) → event ≡ event_at t alert
-    → (proper_alert t alert ≡ true → proper ≡ proper_list t mode list alert) → joined_left proper (unused ∷ (eqb alert 0 || event) ∷ []) ≡ all_of (names_tests t p)
+pub names_valid : (t : List ℕ) (p : ℕ) {alert mode : ℕ} {list : List ℕ} {proper unused fit : Bool} → alert ≡ alert_at t p → mode ≡ mode_at t p → list ≡ list_of t p → unused ≡ unused_zero t p (count_at t p) → fit ≡ proper_alert t alert
+    → (proper_alert t alert ≡ true → proper ≡ proper_list t mode list alert) → joined_left proper (unused ∷ fit ∷ []) ≡ all_of (names_tests t p)
 unfolding proper_list proper_handles all_of
-names_valid t p {alert} {mode} {list} {proper} {unused} {event} a m l u e f = rw (e, u, ← a, ← m, ← l) (by_bool (proper_alert t alert)
+names_valid t p {alert} {mode} {list} {proper} {unused} {fit} a m l u e f = rw (e, u, ← a, ← m, ← l) (by_bool (proper_alert t alert)
     (λ y. rw (f y) (to_last (not (too_few mode (length list))) (occupied_list t list) (eqb mode 0 || not (has list alert || repeated_list list)) (unused_zero t p (count_at t p)) (proper_alert t alert)))
     (λ n. rw (n, and-false (proper && unused_zero t p (count_at t p))) (any_fails (not (too_few mode (length list))) (occupied_list t list) (unused_zero t p (count_at t p)) ((eqb mode 0 || not (has list alert || repeated_list list)) && true))))

@@ -51,10 +51,18 @@ pub fn occupied(t: &Cells, h: u64) -> bool
     0 < tables::named(t, h).kind
 }
 
-pub fn is_event(t: &Cells, h: u64) -> bool
+fn is_event(t: &Cells, h: u64) -> bool
     ensures { result ≡ event_at t.now h }
 {
     tables::named(t, h).is(Kind::Event)
+}
+
+// No alert, or an event.
+pub fn proper_alert(t: &Cells, alert: u64) -> bool
+    ensures { result ≡ proper_alert t.now alert }
+{
+    let event = is_event(t, alert);
+    (alert == 0) | event
 }
 
 fn occupied_list(t: &Cells, list: &[u64]) -> bool
@@ -68,7 +76,7 @@ fn occupied_list(t: &Cells, list: &[u64]) -> bool
 }
 
 // The list's handles are occupied, and none of them is the alert or stands twice: one walk, with a flag for each number
-// met.
+// met. kept: the flags are numbers, as refine's laws `once_more` and `seen_more` take them. `mode` is for the contract.
 fn occupied_once(t: &Cells, mode: u64, list: &[u64], alert: u64) -> bool
     requires { mode ≡ 0 → ⊥ }
     ensures { proper_alert t.now alert ≡ true → result ≡ proper_handles t.now mode list.now alert }
@@ -90,7 +98,7 @@ fn occupied_once(t: &Cells, mode: u64, list: &[u64], alert: u64) -> bool
 }
 
 // A list for its mode, where the alert is a proper one: for any of no handles too (1/13), for all of one at least
-// (house).
+// (house). kept: mode is a number, as `proper_list` of cells takes it
 pub fn proper_list(t: &Cells, mode: u64, list: &[u64], alert: u64) -> bool
     ensures { proper_alert t.now alert ≡ true → result ≡ proper_list t.now mode list.now alert }
 {
@@ -141,10 +149,10 @@ fn valid_names(t: &Cells, p: usize) -> bool
 {
     let terms = tables::header_at(t, p).terms;
     let list = tables::list_of(t, p);
-    let event = is_event(t, terms.alert);
+    let alert = proper_alert(t, terms.alert);
     let unused = tables::unused_zero(t, p);
     let proper = proper_list(t, terms.mode, list, terms.alert);
-    proper & unused & ((terms.alert == 0) | event)
+    proper & unused & alert
 }
 
 fn valid_place(t: &Cells, p: usize) -> bool

@@ -5,9 +5,10 @@ use mathlib.Core.Bool.{Bool, true, false, not, cond, ◌&&◌, ◌||◌, or_asso
 use Rattle.std.specs.Prelude.{Some, None}
 use mathlib.Core.List.{List, [], ◌∷◌}
 use native.Mathlib.Omega.{arith}
+use native.Mathlib.Nat.{le_trans}
 use lib.ListN.{length}
-use lib.Dec.{eqb, ltb}
-use borrow.Author.Tests.{lt-ltb, le-leb, lt-leb}
+use lib.Dec.{eqb, ltb, leb}
+use borrow.Author.Tests.{lt-ltb, le-leb, lt-leb, ltb-false}
 use Rattle.model.specs.Sizes.{wait_places, max_listed, word64, never}
 use Rattle.model.specs.Basics.{any_of}
 use Rattle.model.specs.Calls.{Lent, time_up}
@@ -44,8 +45,8 @@ to_last false a b c = refl
 sixth : (a b c d e f z : Bool) → (a || (b || (c || (d || (e || (f || (true || z))))))) ≡ true
 sixth a b c d e f z = rw (or-true f, or-true e, or-true d, or-true c, or-true b, or-true a)
 
-pub bad_is : (t : List ℕ) (mode : ℕ) (list : List ℕ) (asking flags pad alert : ℕ) {proper event : Bool} → event ≡ event_at t alert → (proper_alert t alert ≡ true → proper ≡ proper_list t mode list alert)
-    → either_left (ltb max_listed (length list)) (not proper ∷ eqb asking 0 ∷ ltb 1 flags ∷ not (eqb pad 0) ∷ not (eqb alert 0 || event) ∷ []) ≡ bad_wait mode list asking flags pad alert t
+pub bad_is : (t : List ℕ) (mode : ℕ) (list : List ℕ) (asking flags pad alert : ℕ) {proper fit : Bool} → fit ≡ proper_alert t alert → (proper_alert t alert ≡ true → proper ≡ proper_list t mode list alert)
+    → either_left (ltb max_listed (length list)) (not proper ∷ eqb asking 0 ∷ ltb 1 flags ∷ not (eqb pad 0) ∷ not fit ∷ []) ≡ bad_wait mode list asking flags pad alert t
 unfolding bad_wait proper_list proper_handles any_of
 bad_is t mode list asking flags pad alert {proper} e q =
     let D : Bool = has list alert || repeated_list list in let a : Bool = eqb asking 0 in let b : Bool = ltb 1 flags in let c : Bool = not (eqb pad 0) in let l : Bool = ltb max_listed (length list) in
@@ -111,3 +112,17 @@ module _ (t : List ℕ) (w : Terms) (list : List ℕ) (time : ℕ) (l : Lent) wh
       pub wait_acts : bad ≡ false → {q : Result} → q ≡ act_cells w.mode copy w.owner w.clock w.alert w.timeout time t l → Wait q
       unfolding wait_on_cells
       wait_acts y h = rw k at h ∙ rw (sym (rw k at e), y)
+
+-- the index of a wait's answer stays within a list; no proof needs it, it is there to be read
+later_index : (t : List ℕ) (mode : ℕ) (list : List ℕ) (asking flags alert timeout time : ℕ) (l : Lent) → (later_cells mode list asking flags alert timeout time t l).first ≡ 0
+unfolding later_cells
+later_index t mode list asking flags alert timeout time l = by_bool (time_up timeout time) (λ y. rw y) (λ n. rw n (by_bool (ltb (ticket_place t 0) wait_places) (λ y. rw y (by_bool (leb word64 (next_ticket t + 1)) (λ y. rw y) (λ m. rw m))) (λ m. rw m)))
+
+short_list : (t : List ℕ) (mode : ℕ) (list : List ℕ) (asking flags pad alert : ℕ) → bad_wait mode list asking flags pad alert t ≡ false → length list ≤ max_listed
+unfolding bad_wait
+short_list t mode list asking flags pad alert n = ltb-false max_listed (length list) (fault_free _ n 1)
+
+pub wait_index : (t : List ℕ) (mode : ℕ) (list : List ℕ) (asking flags pad alert timeout time : ℕ) (l : Lent) → (wait_on_cells mode list asking flags pad alert timeout time t l).first ≤ max_listed
+unfolding wait_on_cells
+wait_index t mode list asking flags pad alert timeout time l = by_bool (bad_wait mode list asking flags pad alert t) (λ y. rw y (omega arith))
+    (λ n. rw n (by_bool (try_list t mode asking alert list).served (λ y. rw y (le_trans (index_le t mode asking alert list) (short_list t mode list asking flags pad alert n))) (λ m. rw (m, later_index t mode list asking flags alert timeout time l) (omega arith))))

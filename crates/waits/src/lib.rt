@@ -28,17 +28,18 @@ fn bad_wait(t: &Cells, terms: Terms, list: &[u64], pad: u64) -> bool
     ensures { result ≡ bad_wait terms.mode list.now terms.owner terms.clock pad terms.alert t.now }
 {
     let n = list.len();
-    let event = validity::is_event(t, terms.alert);
+    let alert = validity::proper_alert(t, terms.alert);
     let proper = validity::proper_list(t, terms.mode, list, terms.alert);
     (tables::MAX_LISTED < n)
         | !proper
         | (terms.owner == 0)
         | (1 < terms.clock)
         | !(pad == 0)
-        | !((terms.alert == 0) | event)
+        | !alert
 }
 
-// After a failed attempt: the time is up, or there is room in the queue, or not.
+// After a failed attempt: the time is up, or there is room in the queue, or not. kept: terms, list and time singly, here
+// and below: `wait` has the list that C lends, `act` and this one its copy, of another type.
 fn later(t: &mut Cells, terms: Terms, list: &[u64], time: u64) -> Result<Outcome, Refusal>
     requires { length list.now ≤ max_listed }
     ensures { waited_by result t.new

@@ -9,6 +9,7 @@ ghost use Rattle.attempt.specs.Values.{tried_by};
 
 use attempt::Served;
 use ending::Record;
+use kinds::Answer;
 use tables::Cells;
 
 // ---- the attempt of a queued wait
@@ -65,7 +66,7 @@ fn settle(
     };
     let r = Record {
         ticket,
-        answer: u64::from(a.answer()),
+        answer: Answer::acquired(a.abandoned),
         index: a.index,
     };
     ending::leave(t, wake, p, told, r);
