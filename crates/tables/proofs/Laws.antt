@@ -5,7 +5,7 @@ use mathlib.Core.Bool.{Bool, true, false, ◌||◌, cond}
 use mathlib.Core.List.{List, [], ◌∷◌}
 use native.Mathlib.Omega.{arith}
 use lib.ListN.{length, get_or, set, take, drop, replicate, length-replicate}
-use lib.Seq.{take-suc, take-suc-set, take-length, sets, sets-eq}
+use lib.Seq.{take-suc, take-suc-set, sets, sets-eq}
 use Rattle.std.proofs.Common.{◌++◌, length-append, length-drop, append_assoc}
 use Rattle.std.proofs.lemmas.List.{take_at, get_or-drop}
 use Rattle.std.proofs.lemmas.List.Sums.{fold-append}
@@ -26,7 +26,7 @@ use Rattle.cells.specs.Waits.{next_ticket, wait_cell, count_at, list_of, names_o
 use Rattle.cells.specs.Calls.{put_header, put_list, queue_cells, made_cells}
 use Rattle.cells.specs.Validity.{unused_zero, valid_free}
 use Rattle.refine.proofs.Shapes.{or_all_zero, all_same}
-use Rattle.refine.proofs.Validity.{list_length, list_at}
+use Rattle.refine.proofs.Validity.{list_length}
 
 -- a handle or not
 module _ (h : ℕ) where
@@ -127,9 +127,6 @@ made_is t e f = rw (f, e)
 -- one more number copied
 pub copied : (wide list : List ℕ) (i : ℕ) → take i wide ≡ take i list → i < length wide → i < length list → take (i + 1) (set wide i (get_or list i 0)) ≡ take (i + 1) list
 copied wide list i e l m = rw (add-one, take-suc-set wide i (get_or list i 0) l, take-suc list i 0 m, e)
-
-pub listed_is : (t : List ℕ) (p i : ℕ) {x : ℕ} → length t ≡ table_length → p < wait_places → i < count_at t p → x ≡ in_wait t p (header_size + i) → x ≡ get_or (list_of t p) i 0
-listed_is t p i l h b e = e ∙ sym (list_at t l p h i b)
 
 -- a list's own test, in the words of the meaning
 pub any_member : (list : List ℕ) (h : ℕ) → list_any (λ k. eqb k h) list ≡ member h list

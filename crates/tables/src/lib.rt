@@ -2,7 +2,7 @@
 // stands.
 #![tactic(auto)]
 
-ghost use Rattle.std.specs.Prelude.{◌≡◌, ◌+◌, ◌≤◌, ◌<◌, length, get_or, take};
+ghost use Rattle.std.specs.Prelude.{◌≡◌, ◌+◌, ◌≤◌, ◌<◌, length, take};
 ghost use Rattle.model.specs.Sizes.{object_places, wait_places, max_listed, word64};
 ghost use Rattle.model.specs.Layout.{wait_size, table_length, in_wait};
 ghost use Rattle.cells.specs.Objects.{fields_at, put_fields, is_handle, named, store};
@@ -204,14 +204,6 @@ pub fn list_of(t: &Cells, p: usize) -> &[u64]
     let from = WAITS_BASE + WAIT_SIZE * p + HEADER_SIZE;
     let end = from + n;
     &t[from..end]
-}
-
-// The i-th handle of a wait's list.
-pub fn listed(t: &Cells, p: usize, i: usize) -> u64
-    requires { (p < wait_places) × (i < count_at t.now p) }
-    ensures { result ≡ get_or (list_of t.now p) i 0 }
-{
-    wait_cell(t, p, HEADER_SIZE + i)
 }
 
 // A copy of a wait's list, which stays as it is when the tables change.

@@ -114,27 +114,24 @@ module _ (h turn last k : ℕ) (t wake : List ℕ) {y : Walked} (d : y ≡ walk_
           pub walk_any : mode ≡ 0 → x ≡ settle (any_at t p) p (walked k t wake) → y ≡ walk_cells (wait_places - (turn + 1)) (Names h) ticket x
           walk_any z = walk_tried (any_at t p) (tried_any t p m z)
 
-          -- after the inner loop, which left tables, wake list and count as they were
-          module _ (z : mode ≡ 0 → ⊥) {u v : List ℕ} {j : ℕ} (c₁ : u ≡ t) (c₂ : v ≡ wake) (c₃ : j ≡ k) where
-            pub walk_alert : look_all t (owner_at t p) (list_of t p) ≡ false → x ≡ settle (alert_of u p) p (walked j u v) → y ≡ walk_cells (wait_places - (turn + 1)) (Names h) ticket x
-            walk_alert e w = walk_tried (alert_of t p) (tried_alert t p m z e) (w ∙ rw (c₁, c₂, c₃))
+          -- after the inner loop, which left wake list and count as they were
+          module _ (z : mode ≡ 0 → ⊥) {v : List ℕ} {j : ℕ} (c₁ : v ≡ wake) (c₂ : j ≡ k) where
+            pub walk_alert : look_all t (owner_at t p) (list_of t p) ≡ false → x ≡ settle (alert_of t p) p (walked j t v) → y ≡ walk_cells (wait_places - (turn + 1)) (Names h) ticket x
+            walk_alert e w = walk_tried (alert_of t p) (tried_alert t p m z e) (w ∙ rw (c₁, c₂))
 
-            pub walk_all : look_all t (owner_at t p) (list_of t p) ≡ true → x ≡ settle (all_at u p) p (walked j u v) → y ≡ walk_cells (wait_places - (turn + 1)) (Names h) ticket x
-            walk_all e w = walk_tried (all_at t p) (tried_all t p m z e) (w ∙ rw (c₁, c₂, c₃))
+            pub walk_all : look_all t (owner_at t p) (list_of t p) ≡ true → x ≡ settle (all_at t p) p (walked j t v) → y ≡ walk_cells (wait_places - (turn + 1)) (Names h) ticket x
+            walk_all e w = walk_tried (all_at t p) (tried_all t p m z e) (w ∙ rw (c₁, c₂))
 
--- the look of the inner loop, over tables that are the same
-module _ (t : List ℕ) (p i : ℕ) {u : List ℕ} {asking handle : ℕ} {here : Bool} (c : u ≡ t) (o : asking ≡ owner_at t p) (g : handle ≡ get_or (list_of u p) i 0) (s : here ≡ signaled_at u asking handle) where
+-- the look of the inner loop
+module _ (t : List ℕ) (p i : ℕ) {list : List ℕ} {asking : ℕ} {here : Bool} (o : asking ≡ owner_at t p) (g : list ≡ list_of t p) (s : here ≡ signaled_at t asking (get_or list i 0)) where
   seen_here : here ≡ SignaledIn t (owner_at t p) (list_of t p) i
-  seen_here = s ∙ rw (g, c, o)
+  seen_here = s ∙ rw (g, o)
 
   pub look_on : not here ≡ false → all_below (SignaledIn t (owner_at t p) (list_of t p)) i ≡ true → all_below (SignaledIn t (owner_at t p) (list_of t p)) (i + 1) ≡ true
   look_on = all_on t (owner_at t p) (list_of t p) i seen_here
 
-  pub look_fails : i < length (list_of t p) → not here ≡ true → look_all t (owner_at t p) (list_of t p) ≡ false
-  look_fails l n = sym (all_stop t (owner_at t p) (list_of t p) i l seen_here n)
+  pub look_fails : i < length list → not here ≡ true → look_all t (owner_at t p) (list_of t p) ≡ false
+  look_fails l n = sym (all_stop t (owner_at t p) (list_of t p) i (rw g at l) seen_here n)
 
 pub look_ends : (t : List ℕ) (p i : ℕ) → i ≡ length (list_of t p) → all_below (SignaledIn t (owner_at t p) (list_of t p)) i ≡ true → look_all t (owner_at t p) (list_of t p) ≡ true
 look_ends t p i e y = sym (all_end t (owner_at t p) (list_of t p) i e y)
-
-pub listed_in : (t : List ℕ) (p : ℕ) (u : List ℕ) {i n : ℕ} → u ≡ t → n ≡ count_at t p → i < n → i < count_at u p
-listed_in t p u c e l = rw (c, sym e) l

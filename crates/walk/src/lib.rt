@@ -98,12 +98,11 @@ pub fn wake(t: &mut Cells, wake: &mut [u64], h: u64) -> usize
             k = settle(t, wake, p, k, last, a);
             continue 'waits;
         }
-        let n = tables::count_at(t, p);
-        // kept: nested labelled loops are document 01's form of this look; by index, since the tables change where it
-        // is left
-        for i in 0..n {
-            let x = tables::listed(t, p, i);
-            let here = attempt::signaled(t, w.terms.owner, x);
+        // kept: nested labelled loops are document 01's form of this look.
+        let found = &*t;
+        let list = tables::list_of(found, p);
+        for x in list {
+            let here = attempt::signaled(found, w.terms.owner, *x);
             if !here {
                 let a = alert_of(t, p);
                 k = settle(t, wake, p, k, last, a);

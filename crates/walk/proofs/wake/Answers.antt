@@ -1,11 +1,10 @@
-use Rattle.walk.proofs.Laws.{settle_count, settle_any, settle_alert, settle_all, walk_end, walk_none, walk_passed, walk_any, walk_alert, walk_all, look_on, look_fails, look_ends, listed_in}
-use Rattle.refine.proofs.Validity.{list_length}
+use Rattle.walk.proofs.Laws.{settle_count, settle_any, settle_alert, settle_all, walk_end, walk_none, walk_passed, walk_any, walk_alert, walk_all, look_on, look_fails, look_ends}
 use Rattle.attempt.proofs.Laws.{all_start}
 use Rattle.cells.specs.Walk.{wake_cells}
 use Rattle.cells.specs.Attempt.{any_at, alert_of, all_at}
-use Rattle.cells.specs.Waits.{ticket_at, owner_at, list_of}
-use mathlib.Core.List.{List}
-use mathlib.Core.Path.{refl, sym, ◌∙◌, ap}
+use Rattle.cells.specs.Waits.{owner_at, list_of}
+use lib.ListN.{length}
+use mathlib.Core.Path.{refl, ap}
 use mathlib.Core.Bool.{not}
 use Prim.Native.Nat.{ℕ}
 use native.Mathlib.Omega.{arith}
@@ -22,14 +21,11 @@ pub waits-preserved-then-not-named : goal.waits-preserved-then-not-named
 waits-preserved-then-not-named c = let s = c.waits in let e = c.in-Some.ensures in
     (omega (arith, s.invariant.0), s.invariant.1, walk_passed c.args.h s.turn s.last s.k s.t s.wake s.invariant.2 c.waits-test.true e.0 e.1 c.header_at-w.ensures.ticket c.names_at-named.ensures (ap not c.if-not-named.true))
 
-pub loop-i-init : goal.loop-i-init
-loop-i-init c = let s = c.waits in let p : ℕ = c.in-Some.p in (all_start s.t (owner_at s.t p) (list_of s.t p), s.invariant.1, refl, refl, refl)
+pub loop-x-init : goal.loop-x-init
+loop-x-init c = let s = c.waits in let p : ℕ = c.in-Some.p in (all_start s.t (owner_at s.t p) (list_of s.t p), refl, refl)
 
-pub loop-i-preserved : goal.loop-i-preserved
-loop-i-preserved c = let s = c.waits in let p : ℕ = c.in-Some.p in let u = c.loop-i in (look_on s.t p u.i u.invariant.2 c.header_at-w.ensures.owner c.listed-x.ensures c.signaled-here.ensures (ap not c.if-not-here.false) u.invariant.0, u.invariant.1, u.invariant.2, u.invariant.3, u.invariant.4)
-
-pub listed-x-requires : goal.listed-x-requires
-listed-x-requires c = let s = c.waits in let p : ℕ = c.in-Some.p in let e = c.in-Some.ensures in let u = c.loop-i in (e.1, listed_in s.t p u.t u.invariant.2 c.count_at-n.ensures c.loop-i-test.true)
+pub loop-x-preserved : goal.loop-x-preserved
+loop-x-preserved c = let s = c.waits in let u = c.loop-x in (look_on s.t c.in-Some.p u.x-index c.header_at-w.ensures.owner c.list_of-list.ensures c.signaled-here.ensures (ap not c.if-not-here.false) u.invariant.0, u.invariant.1, u.invariant.2)
 
 pub waits-preserved-then-w-eq0 : goal.waits-preserved-then-w-eq0
 waits-preserved-then-w-eq0 c = let s = c.waits in let p : ℕ = c.in-Some.p in let e = c.in-Some.ensures in let w = c.header_at-w.ensures in
@@ -40,21 +36,21 @@ waits-preserved-then-w-eq0 c = let s = c.waits in let p : ℕ = c.in-Some.p in l
     )
 
 pub waits-preserved-then-not-here : goal.waits-preserved-then-not-here
-waits-preserved-then-not-here c = let s = c.waits in let p : ℕ = c.in-Some.p in let e = c.in-Some.ensures in let w = c.header_at-w.ensures in let u = c.loop-i in
-    let v = settle_alert u.t u.wake p u.k (w.ticket ∙ ap (λ (x : List ℕ). ticket_at x p) (sym u.invariant.2)) c.alert_of-a.ensures c.settle-k-then-not-here.ensures in (
-      omega (arith, s.invariant.0, settle_count (alert_of u.t p) p u.k u.t u.wake v, u.invariant.4),
+waits-preserved-then-not-here c = let s = c.waits in let p : ℕ = c.in-Some.p in let e = c.in-Some.ensures in let w = c.header_at-w.ensures in let u = c.loop-x in
+    let v = settle_alert s.t u.wake p u.k w.ticket c.alert_of-a.ensures c.settle-k-then-not-here.ensures in (
+      omega (arith, s.invariant.0, settle_count (alert_of s.t p) p u.k s.t u.wake v, u.invariant.2),
       c.settle-k-then-not-here.array_long,
-      walk_alert c.args.h s.turn s.last s.k s.t s.wake s.invariant.2 c.waits-test.true e.0 e.1 w.ticket c.names_at-named.ensures (ap not c.if-not-named.false) w.mode c.if-w-eq0.false u.invariant.2 u.invariant.3 u.invariant.4
-          (look_fails s.t p u.i u.invariant.2 w.owner c.listed-x.ensures c.signaled-here.ensures (omega (arith, list_length s.t s.invariant.1 p e.1, c.count_at-n.ensures, c.loop-i-test.true)) (ap not c.if-not-here.true)) v,
+      walk_alert c.args.h s.turn s.last s.k s.t s.wake s.invariant.2 c.waits-test.true e.0 e.1 w.ticket c.names_at-named.ensures (ap not c.if-not-named.false) w.mode c.if-w-eq0.false u.invariant.1 u.invariant.2
+          (look_fails s.t p u.x-index w.owner c.list_of-list.ensures c.signaled-here.ensures c.loop-x-test.true (ap not c.if-not-here.true)) v,
     )
 
 pub waits-preserved : goal.waits-preserved
-waits-preserved c = let s = c.waits in let p : ℕ = c.in-Some.p in let e = c.in-Some.ensures in let w = c.header_at-w.ensures in let u = c.loop-i in
-    let v = settle_all u.t u.wake p u.k (w.ticket ∙ ap (λ (x : List ℕ). ticket_at x p) (sym u.invariant.2)) c.all_at-a.ensures c.settle-k-in-waits.ensures in (
-      omega (arith, s.invariant.0, settle_count (all_at u.t p) p u.k u.t u.wake v, u.invariant.4),
+waits-preserved c = let s = c.waits in let p : ℕ = c.in-Some.p in let e = c.in-Some.ensures in let w = c.header_at-w.ensures in let u = c.loop-x in
+    let v = settle_all s.t u.wake p u.k w.ticket c.all_at-a.ensures c.settle-k-in-waits.ensures in (
+      omega (arith, s.invariant.0, settle_count (all_at s.t p) p u.k s.t u.wake v, u.invariant.2),
       c.settle-k-in-waits.array_long,
-      walk_all c.args.h s.turn s.last s.k s.t s.wake s.invariant.2 c.waits-test.true e.0 e.1 w.ticket c.names_at-named.ensures (ap not c.if-not-named.false) w.mode c.if-w-eq0.false u.invariant.2 u.invariant.3 u.invariant.4
-          (look_ends s.t p u.i (omega (arith, list_length s.t s.invariant.1 p e.1, c.count_at-n.ensures, c.loop-i-test.false)) u.invariant.0) v,
+      walk_all c.args.h s.turn s.last s.k s.t s.wake s.invariant.2 c.waits-test.true e.0 e.1 w.ticket c.names_at-named.ensures (ap not c.if-not-named.false) w.mode c.if-w-eq0.false u.invariant.1 u.invariant.2
+          (look_ends s.t p u.x-index (omega (arith, ap length c.list_of-list.ensures, c.loop-x-test.false)) u.invariant.0) v,
     )
 
 pub returns : goal.returns

@@ -11,8 +11,8 @@ use lib.ListN.{length}
 use Prim.Native.Nat.{◌≤◌, ◌-◌}
 use Rattle.walk.proofs.wake.Given as goal
 
-abbrev pub invariant-loop-i : goal.invariant-loop-i
-invariant-loop-i l = (all_below (SignaledIn l.initial.t (owner_at l.initial.t l.p) (list_of l.initial.t l.p)) l.i ≡ true) × (length l.t ≡ table_length) × (l.t ≡ l.initial.t) × (l.wake ≡ l.initial.wake) × (l.k ≡ l.initial.k)
+abbrev pub invariant-loop-x : goal.invariant-loop-x
+invariant-loop-x l = (all_below (SignaledIn l.found (owner_at l.found l.p) (list_of l.found l.p)) l.x-index ≡ true) × (l.wake ≡ l.initial.wake) × (l.k ≡ l.initial.k)
 
 abbrev pub invariant-waits : goal.invariant-waits
 invariant-waits l = (l.k ≤ l.turn) × (length l.t ≡ table_length) × (wake_cells l.initial.t l.h l.initial.wake ≡ walk_cells (wait_places - l.turn) (Names l.h) l.last (walked l.k l.t l.wake))
