@@ -8,7 +8,7 @@ ghost use Rattle.cells.specs.Calls.{guarded, read_cells};
 ghost use Rattle.calls.specs.Values.{left_by, numbers, mutex_numbers};
 ghost use Rattle.ntsync_reads.specs.Values.{SemaphoreTold, MutexTold, EventTold};
 
-use kinds::Refusal;
+use kinds::{Answer, Refusal};
 use ntsync_guard::sound;
 
 // kept: the C interface's structs, an answer with two numbers beside it
@@ -35,9 +35,6 @@ pub struct EventState {
     pub signaled: u32,
     pub manual: u32,
 }
-
-// The answer of an abandoned mutex.
-const OWNER_DEAD: u32 = 4;
 
 impl From<Result<(u32, u32), Refusal>> for SemaphoreState {
     ghost from_gives = { SemaphoreTold };
@@ -69,7 +66,7 @@ impl From<Result<Option<(u32, u32)>, Refusal>> for MutexState {
                 count,
             },
             Ok(None) => MutexState {
-                answer: OWNER_DEAD,
+                answer: u32::from(Answer::OwnerDead),
                 owner: 0,
                 count: 0,
             },

@@ -9,7 +9,7 @@ ghost use Rattle.cells.specs.Calls.{wait_on_cells, guarded};
 ghost use Rattle.waits.specs.Values.{waited_by};
 ghost use Rattle.ntsync_waits.specs.Values.{WaitedBy};
 
-use kinds::Refusal;
+use kinds::{Answer, Refusal};
 use tables::Terms;
 use waits::Outcome;
 
@@ -28,13 +28,19 @@ impl From<Result<Outcome, Refusal>> for Waited {
 
     fn from(r: Result<Outcome, Refusal>) -> Waited {
         let (answer, index, ticket) = match r {
-            Ok(Outcome::Served { index, abandoned }) => (if abandoned { 4 } else { 0 }, index, 0),
-            Ok(Outcome::TimedOut) => (5, 0, 0),
-            Ok(Outcome::Queued { ticket }) => (11, 0, ticket),
-            Err(r) => (u32::from(r), 0, 0),
+            Ok(Outcome::Served { index, abandoned }) => (Answer::acquired(abandoned), index, 0),
+            Ok(Outcome::TimedOut) => (Answer::TimedOut, 0, 0),
+            Ok(Outcome::Queued { ticket }) => (Answer::Queued, 0, ticket),
+            Err(r) => {
+                return Waited {
+                    answer: u32::from(r),
+                    index: 0,
+                    ticket: 0,
+                };
+            }
         };
         Waited {
-            answer,
+            answer: u32::from(answer),
             index,
             ticket,
         }
