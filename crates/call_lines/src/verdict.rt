@@ -27,6 +27,7 @@ pub fn is_filled<T: PartialEq>(list: &[T], from: usize, value: &T) -> bool
 }
 
 // Of what stands behind a result.
+// kept beside `altered` and `yes`: a helper that takes both words is no plainer, an `if` with another name.
 pub fn rest(is_kept: bool) -> &'static str {
     if is_kept { "rest kept" } else { "REST ALTERED" }
 }
