@@ -2,6 +2,7 @@
 // it, and for a call that is lent the tables for writing whether a cell changed.
 use crate::memory::Tables;
 use crate::told::Told;
+use std::fmt::Display;
 use std::io;
 
 impl Tables {
@@ -23,22 +24,25 @@ impl Tables {
         )
     }
 
-    pub fn read_semaphore(self, rt: &impl Print, handle: u32) -> io::Result<Self> {
-        let told = Told(ntsync::read_sem(&self.cells, handle));
-        println!(rt; "read semaphore {handle}: {told}")?;
+    // Ends the line of a call that only reads: what it told.
+    fn read<R: Display + Drop>(self, rt: &impl Print, told: R) -> io::Result<Self> {
+        println!(rt; " {told}")?;
         Ok(self)
+    }
+
+    pub fn read_semaphore(self, rt: &impl Print, handle: u32) -> io::Result<Self> {
+        print!(rt; "read semaphore {handle}:")?;
+        self.read(rt, Told(ntsync::read_sem(&self.cells, handle)))
     }
 
     pub fn read_mutex(self, rt: &impl Print, handle: u32) -> io::Result<Self> {
-        let told = Told(ntsync::read_mutex(&self.cells, handle));
-        println!(rt; "read mutex {handle}: {told}")?;
-        Ok(self)
+        print!(rt; "read mutex {handle}:")?;
+        self.read(rt, Told(ntsync::read_mutex(&self.cells, handle)))
     }
 
     pub fn read_event(self, rt: &impl Print, handle: u32) -> io::Result<Self> {
-        let told = Told(ntsync::read_event(&self.cells, handle));
-        println!(rt; "read event {handle}: {told}")?;
-        Ok(self)
+        print!(rt; "read event {handle}:")?;
+        self.read(rt, Told(ntsync::read_event(&self.cells, handle)))
     }
 
     pub fn close(self, rt: &impl Print, handle: u32) -> io::Result<Self> {

@@ -1,6 +1,7 @@
 // Cells by the numbers of docs/LAYOUT.md, and cells written. Only the program knows these numbers a second time: it
 // writes into the tables what no call can.
-ghost use Rattle.std.specs.Prelude.{◌≤◌};
+ghost use Rattle.std.specs.Prelude.{◌≡◌, ◌≤◌, IfOk};
+ghost use Rattle.std.specs.Fn.{FnOnceReturnsAtMut};
 
 use crate::verdict::altered;
 use std::fmt::Display;
@@ -81,7 +82,7 @@ pub enum Cell {
 }
 
 impl Cell {
-    pub fn number(self) -> usize {
+    fn number(self) -> usize {
         match self {
             Cell::NextTicket => 0,
             Cell::Object(place, cell) => OBJECTS + OBJECT_SIZE * usize::from(place) + cell as usize,
@@ -110,13 +111,15 @@ impl Tables {
         Self { cells }
     }
 
-    // Ends the line of a call that is lent the cells for writing: what it told, and whether a cell changed.
+    // Ends the line of a call that is lent the cells for writing: what it told, and whether a cell changed. The cells
+    // that the call left are handed back.
     pub fn told<R: Display + Drop, F: FnOnce(&mut Cells) -> R>(
         self,
         rt: &impl Print,
         call: F,
     ) -> io::Result<Self>
         requires { F.IsAlwaysCallable call }
+        ensures { IfOk result (λ t. (r : R) × FnOnceReturnsAtMut F.FnOnce call self.cells r t.cells) }
     {
         let mut cells = self.cells;
         let told = call(&mut cells);
@@ -125,7 +128,9 @@ impl Tables {
     }
 
     // Ends a line with whether these cells are others.
-    pub fn then(self, rt: &impl Print, cells: Cells) -> io::Result<Self> {
+    pub fn then(self, rt: &impl Print, cells: Cells) -> io::Result<Self>
+        ensures { IfOk result (λ t. t.cells ≡ cells) }
+    {
         println!(rt; " {}", altered(&cells, &self.cells))?;
         Ok(Self { cells })
     }

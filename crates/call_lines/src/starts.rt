@@ -9,7 +9,8 @@ const QUEUED: u32 = 11;
 const WAIT_PLACES: u32 = 32;
 
 impl Tables {
-    // Calls with 1, 2, 3 and on, at most n, until one gives false. The line says how many gave true.
+    // Calls with 1, 2, 3 and on, at most n, until one gives false. The line says how many gave true; as it is only
+    // printed, no clause names it.
     pub fn in_a_row<F: FnMut(&mut Cells, u32) -> bool>(
         self,
         rt: &impl Print,
@@ -21,7 +22,8 @@ impl Tables {
     {
         let mut cells = self.cells;
         let mut row = 0;
-        // kept a loop: what `take_while(..).count()` asks of a closure that calls `call` does not prove.
+        // kept: a loop. With `take_while(..).count()` the proof did not close: that its closure, which calls `call`, may
+        // be called at each number, even where `F.pre` is required at all arguments.
         for i in 1..=n {
             if !call(&mut cells, i) {
                 break;

@@ -1,7 +1,7 @@
 // What the end of a line says: whether the cells of the tables were left, and those behind a result.
 ghost use Rattle.std.specs.Prelude.{◌≡◌, true, ◌↔◌, All, drop};
 
-// kept beside `==`: its promise is the one that "unaltered" and "the same cells" rest on.
+// kept: no plainer. `==` at each place would have no contract, and on this one "unaltered" and "the same cells" rest.
 pub fn same(a: &[u64], b: &[u64]) -> bool
     ensures { (result ≡ true → a.now ≡ b.now) × (a.now ≡ b.now → result ≡ true) }
 {
@@ -27,6 +27,7 @@ pub fn is_filled<T: PartialEq>(list: &[T], from: usize, value: &T) -> bool
 }
 
 // Of what stands behind a result.
+// kept: no plainer. One helper for `altered`, `rest` and `yes` would take both words: an `if` with another name.
 pub fn rest(is_kept: bool) -> &'static str {
     if is_kept { "rest kept" } else { "REST ALTERED" }
 }

@@ -1,5 +1,11 @@
 // The two waits, each with its line: the list and the other arguments, then the answer, the index, the ticket, and
 // whether a cell of the tables changed.
+ghost use Rattle.std.specs.Prelude.{◌≡◌, [], ◌∷◌};
+ghost use Rattle.model.specs.Sizes.{never};
+ghost use Rattle.model.specs.Calls.{wait, nothing_lent, asks};
+ghost use Rattle.model.specs.Steps.{table_step, seen, sees};
+ghost use Rattle.model.specs.Waits.{any, all};
+
 use crate::memory::Tables;
 use crate::told::Told;
 use ntsync::Waited;
@@ -46,7 +52,9 @@ pub struct Terms {
 
 impl Terms {
     // With no alert and no end.
-    pub fn of(owner: u32) -> Self {
+    pub fn of(owner: u32) -> Self
+        ensures { result ≡ record { owner = owner; alert = 0; flags = 0; pad = 0; timeout = never; time = 0 } }
+    {
         Self {
             owner,
             alert: 0,
@@ -57,12 +65,16 @@ impl Terms {
         }
     }
 
-    pub fn alerted(self, alert: u32) -> Self {
+    pub fn alerted(self, alert: u32) -> Self
+        ensures { result ≡ record self { alert = alert } }
+    {
         Self { alert, ..self }
     }
 
     // Asked at `time`, with the end `timeout` on the clock of these flags.
-    pub fn until(self, flags: u32, timeout: u64, time: u64) -> Self {
+    pub fn until(self, flags: u32, timeout: u64, time: u64) -> Self
+        ensures { result ≡ record self { flags = flags; timeout = timeout; time = time } }
+    {
         Self {
             flags,
             timeout,
@@ -85,11 +97,19 @@ impl fmt::Display for Terms {
 
 // The calls themselves, for any tables.
 // kept: they unpack Terms for the public calls, whose arguments are those of the C interface.
-pub fn any_on(t: &mut [u64], list: &[u32], w: Terms) -> Waited {
+pub fn any_on(t: &mut [u64], list: &[u32], w: Terms) -> Waited
+    ensures { seen (table_step t.old
+        (asks (wait any list.now w.owner w.flags w.pad w.alert w.timeout w.time) nothing_lent))
+        ≡ sees (result.answer ∷ result.index ∷ result.ticket ∷ 0 ∷ []) nothing_lent t.new }
+{
     ntsync::wait_any(t, list, w.owner, w.alert, w.flags, w.pad, w.timeout, w.time)
 }
 
-pub fn all_on(t: &mut [u64], list: &[u32], w: Terms) -> Waited {
+pub fn all_on(t: &mut [u64], list: &[u32], w: Terms) -> Waited
+    ensures { seen (table_step t.old
+        (asks (wait all list.now w.owner w.flags w.pad w.alert w.timeout w.time) nothing_lent))
+        ≡ sees (result.answer ∷ result.index ∷ result.ticket ∷ 0 ∷ []) nothing_lent t.new }
+{
     ntsync::wait_all(t, list, w.owner, w.alert, w.flags, w.pad, w.timeout, w.time)
 }
 

@@ -17,7 +17,7 @@ pub type WakeList = [u64; WAKE_LENGTH];
 pub const UNTOUCHED: u64 = 777;
 
 // Whether every cell from `from` on holds UNTOUCHED.
-// kept beside `is_filled`: its contract names the number, 777.
+// kept: no plainer. Its contract names the number, 777, where `is_filled` at each caller would name none.
 pub fn is_untouched(wake: &[u64], from: usize) -> bool
     ensures { (result ≡ true) ↔ Kept 777 wake.now from }
 {

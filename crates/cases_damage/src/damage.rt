@@ -4,12 +4,10 @@
 use call_lines::memory::Cell::{Object, Wait};
 use call_lines::memory::ObjectCell::{Attribute, Count, Kind, Owner};
 use call_lines::memory::WaitCell::{Alert, Clock, Listed, Mode, Ticket, Timeout};
-use call_lines::memory::{
-    Cell, Cells, ObjectCell, SPACE_LENGTH, TABLE_LENGTH, WaitCell, put, put_row,
-};
+use call_lines::memory::{Cell, Cells, SPACE_LENGTH, TABLE_LENGTH, WaitCell, put, put_row};
 use call_lines::told::Told;
 use call_lines::verdict::{altered, rest};
-use call_lines::waiting::{NEVER, Terms, all_on, any_on};
+use call_lines::waiting::{MONOTONIC, NEVER, Terms, all_on, any_on};
 use call_lines::wakes;
 use call_lines::wakes::Targets;
 use call_lines::woken::{UNTOUCHED, WAKE_LENGTH, is_untouched};
@@ -52,7 +50,7 @@ const HANDLES: Targets = Targets {
     semaphore: 1,
     mutex: 2,
     event: 3,
-    clock: 0,
+    clock: MONOTONIC,
 };
 
 // ---- the sound tables
@@ -135,54 +133,43 @@ fn one_cell(rt: &impl Print, label: &str, at: Cell, value: u64) -> io::Result<()
     ask(rt, label, t)
 }
 
-// kept beside `one_cell`: a line each below.
-fn object_cell(
-    rt: &impl Print,
-    label: &str,
-    place: u16,
-    cell: ObjectCell,
-    value: u64,
-) -> io::Result<()> {
-    one_cell(rt, label, Object(place, cell), value)
-}
-
-fn wait_cell(
-    rt: &impl Print,
-    label: &str,
-    place: u8,
-    cell: WaitCell,
-    value: u64,
-) -> io::Result<()> {
-    one_cell(rt, label, Wait(place, cell), value)
-}
-
 // ---- the lines of "Sound tables"
 
 fn objects(rt: &impl Print) -> io::Result<()> {
-    object_cell(rt, "object kind 4", SEMAPHORE, Kind, 4)?;
-    object_cell(rt, "object kind 0", SEMAPHORE, Kind, 0)?;
-    object_cell(rt, "empty place, count 1", EMPTY, Count, 1)?;
-    object_cell(rt, "empty place, owner 1", EMPTY, Owner, 1)?;
-    object_cell(rt, "empty place, attribute 1", EMPTY, Attribute, 1)
+    one_cell(rt, "object kind 4", Object(SEMAPHORE, Kind), 4)?;
+    one_cell(rt, "object kind 0", Object(SEMAPHORE, Kind), 0)?;
+    one_cell(rt, "empty place, count 1", Object(EMPTY, Count), 1)?;
+    one_cell(rt, "empty place, owner 1", Object(EMPTY, Owner), 1)?;
+    one_cell(rt, "empty place, attribute 1", Object(EMPTY, Attribute), 1)
 }
 
 fn semaphores_and_events(rt: &impl Print) -> io::Result<()> {
-    object_cell(rt, "semaphore 4 of 3", SEMAPHORE, Count, 4)?;
-    object_cell(rt, "semaphore maximum 2^32", SEMAPHORE, Attribute, WORD32)?;
-    object_cell(rt, "semaphore maximum 0", UNNAMED, Attribute, 0)?;
-    object_cell(rt, "semaphore owner 1", SEMAPHORE, Owner, 1)?;
-    object_cell(rt, "event signaled 2", EVENT, Count, 2)?;
-    object_cell(rt, "event manual 2", EVENT, Attribute, 2)?;
-    object_cell(rt, "event owner 1", EVENT, Owner, 1)
+    one_cell(rt, "semaphore 4 of 3", Object(SEMAPHORE, Count), 4)?;
+    one_cell(
+        rt,
+        "semaphore maximum 2^32",
+        Object(SEMAPHORE, Attribute),
+        WORD32,
+    )?;
+    one_cell(rt, "semaphore maximum 0", Object(UNNAMED, Attribute), 0)?;
+    one_cell(rt, "semaphore owner 1", Object(SEMAPHORE, Owner), 1)?;
+    one_cell(rt, "event signaled 2", Object(EVENT, Count), 2)?;
+    one_cell(rt, "event manual 2", Object(EVENT, Attribute), 2)?;
+    one_cell(rt, "event owner 1", Object(EVENT, Owner), 1)
 }
 
 fn mutexes(rt: &impl Print) -> io::Result<()> {
-    object_cell(rt, "mutex owner 0 count 1", MUTEX, Owner, 0)?;
-    object_cell(rt, "mutex owner 5 count 0", MUTEX, Count, 0)?;
-    object_cell(rt, "mutex owner 2^32", MUTEX, Owner, WORD32)?;
-    object_cell(rt, "mutex count 2^32", MUTEX, Count, WORD32)?;
-    object_cell(rt, "mutex abandoned with owner", MUTEX, Attribute, 1)?;
-    object_cell(rt, "mutex abandoned 2", ABANDONED, Attribute, 2)
+    one_cell(rt, "mutex owner 0 count 1", Object(MUTEX, Owner), 0)?;
+    one_cell(rt, "mutex owner 5 count 0", Object(MUTEX, Count), 0)?;
+    one_cell(rt, "mutex owner 2^32", Object(MUTEX, Owner), WORD32)?;
+    one_cell(rt, "mutex count 2^32", Object(MUTEX, Count), WORD32)?;
+    one_cell(
+        rt,
+        "mutex abandoned with owner",
+        Object(MUTEX, Attribute),
+        1,
+    )?;
+    one_cell(rt, "mutex abandoned 2", Object(ABANDONED, Attribute), 2)
 }
 
 // With no wait queued only the next ticket itself is wrong.
@@ -196,10 +183,10 @@ fn next_ticket(rt: &impl Print) -> io::Result<()> {
 fn tickets(rt: &impl Print) -> io::Result<()> {
     one_cell(rt, "next ticket 0", Cell::NextTicket, 0)?;
     one_cell(rt, "next ticket that of a wait", Cell::NextTicket, 8)?;
-    wait_cell(rt, "wait ticket the next", ANY, Ticket, 9)?;
-    wait_cell(rt, "wait ticket 2^64-1", ANY, Ticket, NEVER)?;
-    wait_cell(rt, "wait ticket twice", ALL, Ticket, 5)?;
-    wait_cell(rt, "wait ticket 0", ANY, Ticket, 0)
+    one_cell(rt, "wait ticket the next", Wait(ANY, Ticket), 9)?;
+    one_cell(rt, "wait ticket 2^64-1", Wait(ANY, Ticket), NEVER)?;
+    one_cell(rt, "wait ticket twice", Wait(ALL, Ticket), 5)?;
+    one_cell(rt, "wait ticket 0", Wait(ANY, Ticket), 0)
 }
 
 // With a list of zeros only the count itself can be wrong, and for any it is not.
@@ -212,41 +199,51 @@ fn empty_list(rt: &impl Print, mode: u64, label: &str) -> io::Result<()> {
 }
 
 fn headers(rt: &impl Print) -> io::Result<()> {
-    wait_cell(rt, "wait owner 0", ANY, WaitCell::Owner, 0)?;
-    wait_cell(rt, "wait owner 2^32", ANY, WaitCell::Owner, WORD32)?;
-    wait_cell(rt, "wait mode 2", ANY, Mode, 2)?;
-    wait_cell(rt, "wait clock 2", ANY, Clock, 2)?;
-    wait_cell(rt, "wait count 0", SINGLE, WaitCell::Count, 0)?;
-    wait_cell(rt, "wait count 65", LONG, WaitCell::Count, 65)?;
-    wait_cell(rt, "wait count 2^64-1", LONG, WaitCell::Count, NEVER)
+    one_cell(rt, "wait owner 0", Wait(ANY, WaitCell::Owner), 0)?;
+    one_cell(rt, "wait owner 2^32", Wait(ANY, WaitCell::Owner), WORD32)?;
+    one_cell(rt, "wait mode 2", Wait(ANY, Mode), 2)?;
+    one_cell(rt, "wait clock 2", Wait(ANY, Clock), 2)?;
+    one_cell(rt, "wait count 0", Wait(SINGLE, WaitCell::Count), 0)?;
+    one_cell(rt, "wait count 65", Wait(LONG, WaitCell::Count), 65)?;
+    one_cell(rt, "wait count 2^64-1", Wait(LONG, WaitCell::Count), NEVER)
 }
 
 fn lists(rt: &impl Print) -> io::Result<()> {
-    wait_cell(rt, "list handle 0", ANY, Listed(0), 0)?;
-    wait_cell(rt, "list handle 513", ANY, Listed(0), 513)?;
-    wait_cell(rt, "list handle 7, empty place", ANY, Listed(0), 7)?;
-    wait_cell(rt, "list handle 2^32+1", ANY, Listed(0), WORD32 + 1)?;
-    wait_cell(rt, "list handle 0, last of 64", LONG, LAST_LISTED, 0)?;
-    wait_cell(rt, "cell after the list 1", ANY, Listed(2), 1)?;
-    wait_cell(rt, "last cell after the list 1", ANY, LAST_LISTED, 1)
+    one_cell(rt, "list handle 0", Wait(ANY, Listed(0)), 0)?;
+    one_cell(rt, "list handle 513", Wait(ANY, Listed(0)), 513)?;
+    one_cell(rt, "list handle 7, empty place", Wait(ANY, Listed(0)), 7)?;
+    one_cell(rt, "list handle 2^32+1", Wait(ANY, Listed(0)), WORD32 + 1)?;
+    one_cell(rt, "list handle 0, last of 64", Wait(LONG, LAST_LISTED), 0)?;
+    one_cell(rt, "cell after the list 1", Wait(ANY, Listed(2)), 1)?;
+    one_cell(rt, "last cell after the list 1", Wait(ANY, LAST_LISTED), 1)
 }
 
 fn free_places(rt: &impl Print) -> io::Result<()> {
-    wait_cell(rt, "empty wait place, mode 1", FREE, Mode, 1)?;
-    wait_cell(rt, "empty wait place, owner 1", FREE, WaitCell::Owner, 1)?;
-    wait_cell(rt, "empty wait place, timeout 1", FREE, Timeout, 1)?;
-    wait_cell(rt, "empty wait place, list end 1", FREE, LAST_LISTED, 1)?;
-    wait_cell(rt, "last cell of the tables 1", LAST, LAST_LISTED, 1)
+    one_cell(rt, "empty wait place, mode 1", Wait(FREE, Mode), 1)?;
+    one_cell(
+        rt,
+        "empty wait place, owner 1",
+        Wait(FREE, WaitCell::Owner),
+        1,
+    )?;
+    one_cell(rt, "empty wait place, timeout 1", Wait(FREE, Timeout), 1)?;
+    one_cell(
+        rt,
+        "empty wait place, list end 1",
+        Wait(FREE, LAST_LISTED),
+        1,
+    )?;
+    one_cell(rt, "last cell of the tables 1", Wait(LAST, LAST_LISTED), 1)
 }
 
 fn names(rt: &impl Print) -> io::Result<()> {
-    wait_cell(rt, "alert a semaphore", ANY, Alert, 1)?;
-    wait_cell(rt, "alert a mutex", ANY, Alert, 2)?;
-    wait_cell(rt, "alert 513", ANY, Alert, 513)?;
-    wait_cell(rt, "alert 2^32+4", ANY, Alert, WORD32 + 4)?;
-    wait_cell(rt, "alert 7, empty place", ANY, Alert, 7)?;
-    wait_cell(rt, "wait for all, handle twice", ALL, Listed(1), 1)?;
-    wait_cell(rt, "wait for all, alert in list", ALL, Listed(1), 3)
+    one_cell(rt, "alert a semaphore", Wait(ANY, Alert), 1)?;
+    one_cell(rt, "alert a mutex", Wait(ANY, Alert), 2)?;
+    one_cell(rt, "alert 513", Wait(ANY, Alert), 513)?;
+    one_cell(rt, "alert 2^32+4", Wait(ANY, Alert), WORD32 + 4)?;
+    one_cell(rt, "alert 7, empty place", Wait(ANY, Alert), 7)?;
+    one_cell(rt, "wait for all, handle twice", Wait(ALL, Listed(1)), 1)?;
+    one_cell(rt, "wait for all, alert in list", Wait(ALL, Listed(1)), 3)
 }
 
 pub fn cases(rt: &impl Print) -> io::Result<()> {

@@ -16,7 +16,7 @@ const SENTINEL: u8 = b'#';
 // ---- the call and its line
 
 // Whether every byte from `from` on is the sentinel.
-// kept beside `is_filled`: its contract names the number, 35.
+// kept: no plainer. Its contract names the number, 35, where `is_filled` at each caller would name none.
 fn is_kept(buffer: &[u8], from: usize) -> bool
     ensures { (result ≡ true) ↔ Kept 35 buffer.now from }
 {

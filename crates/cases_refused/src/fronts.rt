@@ -2,7 +2,7 @@
 use call_lines::memory::{Cells, Tables};
 use call_lines::verdict::{altered, rest};
 use call_lines::waiting::{REAL_TIME, Terms};
-use call_lines::woken::{UNTOUCHED, is_untouched};
+use call_lines::woken::{UNTOUCHED, WAKE_LENGTH, is_untouched};
 use std::io;
 
 // Longer than a wake list has to be.
@@ -88,10 +88,10 @@ pub fn cases(rt: &impl Print) -> io::Result<()> {
     println!(rt; "-- fronts of the wake list")?;
     let t = post(rt, queued(rt)?, 1, 3)?.read_semaphore(rt, 1)?;
     let t = post(rt, t, 1, 3)?;
-    let t = expire(rt, t, 1, 49)?;
-    let t = expire(rt, t, 1, 50)?;
+    let t = expire(rt, t, REAL_TIME, 49)?;
+    let t = expire(rt, t, REAL_TIME, 50)?;
     let t = expire(rt, t, 2, 50)?;
     let t = set(rt, t, &mut [UNTOUCHED; LIST_LENGTH], 1)?;
-    set(rt, t, &mut [UNTOUCHED; 95], 2)?.read_event(rt, 2)?;
+    set(rt, t, &mut [UNTOUCHED; WAKE_LENGTH - 1], 2)?.read_event(rt, 2)?;
     Ok(())
 }

@@ -1,10 +1,10 @@
 // What the waits and the calls that wake refuse, and which refusal is told first.
 use call_lines::memory::Tables;
 use call_lines::verdict::{altered, rest};
-use call_lines::waiting::{NEVER, Terms};
+use call_lines::waiting::{MONOTONIC, NEVER, REAL_TIME, Terms};
 use call_lines::wakes;
 use call_lines::wakes::Targets;
-use call_lines::woken::{UNTOUCHED, is_untouched};
+use call_lines::woken::{UNTOUCHED, WAKE_LENGTH, is_untouched};
 use std::io;
 
 // Handles: 1 unset auto event, 2 mutex of owner 5, 3 set manual event, 4 semaphore; place 5 is empty.
@@ -64,7 +64,7 @@ fn numbers(rt: &impl Print, mut t: Tables) -> io::Result<Tables> {
     }
     let t = with(rt, t, Terms::of(0))?;
     let real_time = Terms {
-        flags: 1,
+        flags: REAL_TIME,
         ..Terms::of(u32::MAX)
     };
     with(rt, t, real_time)
@@ -135,7 +135,7 @@ const GOOD: Targets = Targets {
     semaphore: 4,
     mutex: 2,
     event: 1,
-    clock: 0,
+    clock: MONOTONIC,
 };
 
 const BAD: Targets = Targets {
@@ -154,8 +154,8 @@ fn ask_twice(rt: &impl Print, t: Tables, wake: &mut [u64]) -> io::Result<Tables>
 fn ask_lists(rt: &impl Print, t: Tables) -> io::Result<Tables> {
     let t = ask_twice(rt, t, &mut [UNTOUCHED; 0])?;
     let t = ask_twice(rt, t, &mut [UNTOUCHED; 1])?;
-    let t = ask_twice(rt, t, &mut [UNTOUCHED; 95])?;
-    ask_twice(rt, t, &mut [UNTOUCHED; 96])
+    let t = ask_twice(rt, t, &mut [UNTOUCHED; WAKE_LENGTH - 1])?;
+    ask_twice(rt, t, &mut [UNTOUCHED; WAKE_LENGTH])
 }
 
 pub fn wake_lists(rt: &impl Print) -> io::Result<()> {
