@@ -57,11 +57,11 @@ module _ (t : List ℕ) {u : List ℕ} (same : u ≡ t) where
     pub long_in : {s : Left} → valid_cells u ≡ true → wake_length ≤ length wake → s ≡ r → s ≡ tested t wake r
     long_in y l e = rw (← same, y, le-ltb (length wake) wake_length l) e
 
--- which of the two tests of the calls that wake refuses: 9, then 12, or none
+-- which of the two tests of the calls that wake refuses: 9, then 12, or none (for ntsync_signals' `wakes_refused` and `wakes_done`)
 abbrev pub tests : List ℕ → List ℕ → ℕ
 tests t wake = cond (valid_cells t) (cond (ltb (length wake) wake_length) 12 0) 9
 
--- a call that nothing is lent but tables: refused where they are corrupt, and else its work
+-- a call that nothing is lent but tables: refused where they are corrupt, and else its work (to be read, as landing 3 names them: no proof needs them)
 module _ (op : Operation) (t : List ℕ) (w : Words t) where
   pub corrupt : valid_cells t ≡ false → seen (table_step t (asks op nothing_lent)) ≡ shown (refused_with 9 t nothing_lent)
   corrupt n = means op t nothing_lent w (corrupt_out t refl nothing_lent (on_cells op t nothing_lent) n)

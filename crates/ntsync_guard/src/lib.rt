@@ -41,6 +41,8 @@ pub fn guarded<R, F: FnOnce(&mut Cells) -> Result<R, Refusal>>(
 }
 
 // The work of a call that wakes; corrupt tables are refused before it, then a wake list that is too short.
+// kept: not over `guarded`: tried, and the proof didn't close. No clause says that a closure that is let go uncalled
+// leaves the wake list that it holds as it was.
 pub fn guarded_wake<R, F: FnOnce(&mut Cells, &mut [u64]) -> Result<R, Refusal>>(
     tables: &mut [u64],
     wake: &mut [u64],
