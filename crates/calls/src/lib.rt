@@ -60,8 +60,8 @@ pub fn close(t: &mut Cells, h: u64) -> Result<(), Refusal>
     Ok(())
 }
 
-// The count and the attribute of an object of this kind. kept: the two calls below say of which, for their own
-// contracts
+// The count and the attribute of an object of this kind. kept: a call for each kind below, whose clause (`read_cells
+// a_semaphore`, `read_cells an_event`) ntsync_reads cites
 fn read_pair(t: Sound, h: u64, kind: Kind) -> Result<(u32, u32), Refusal>
     ensures { left_by numbers result t.entry.cells.now ≡ read_pair (cell_of kind) h t.entry.cells.now nothing_lent }
 {

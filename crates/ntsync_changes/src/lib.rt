@@ -21,6 +21,7 @@ fn try_close(tables: &mut [u64], handle: u32) -> Result<(), Refusal>
     guarded(tables, |t| calls::close(t, u64::from(handle)))
 }
 
+// kept: an answer by a match, here and in `cancel`: `map_or_else(u32::from, |()| 0)` says it no plainer.
 pub fn close(tables: &mut [u64], handle: u32) -> u32
     ensures { seen (table_step tables.old (asks (close handle) nothing_lent))
         ≡ sees (result ∷ 0 ∷ 0 ∷ 0 ∷ []) nothing_lent tables.new }
@@ -42,10 +43,8 @@ pub fn reset(tables: &mut [u64], handle: u32) -> Changed
     ensures { seen (table_step tables.old (asks (reset_event handle) nothing_lent))
         ≡ sees (result.answer ∷ result.previous ∷ 0 ∷ result.woken ∷ []) nothing_lent tables.new }
 {
-    match try_reset(tables, handle) {
-        Ok(previous) => Changed::from(Ok(Woke { previous, woken: 0 })),
-        Err(r) => Changed::from(Err(r)),
-    }
+    let r = try_reset(tables, handle);
+    Changed::from(r.map(|previous| Woke { previous, woken: 0 }))
 }
 
 fn try_cancel(tables: &mut [u64], ticket: u64) -> Result<(), Refusal>

@@ -1,5 +1,6 @@
 // The calls that wake once more, each handing out the filled front of the caller's own wake list, empty after a
-// refusal; `result` gets the answer, the number handed back and the number of records.
+// refusal; `res` gets the answer, the number handed back and the number of records. kept: an array, since
+// the signature of a public call may not change.
 #![tactic(auto)]
 
 ghost use Rattle.std.specs.Prelude.{◌≡◌, length, take, ◌*◌, ◌≤◌};

@@ -12,23 +12,23 @@ use Rattle.kinds.specs.declared.refusal.Refusal.{Refusal}
 abbrev pub OnSound : (MutBor (List ℕ) → Type 0) → Type 0
 OnSound pre = (t : MutBor (List ℕ)) → valid_cells t.now ≡ true → pre t
 
--- what a refusal leaves
-abbrev pub Refuses : {R : Type 0} → (Result R Refusal → List ℕ → Left) → Type 0
-Refuses left = (e : Refusal) (t : List ℕ) → left (Err e) t ≡ refused_with (number_of e) t nothing_lent
+-- what it leaves of a refusal is that
+abbrev pub LeavesRefusals : {R : Type 0} → (Result R Refusal → List ℕ → Left) → Type 0
+LeavesRefusals left = (e : Refusal) (t : List ℕ) → left (Err e) t ≡ refused_with (number_of e) t nothing_lent
 
 -- what it leaves is what rule says of the tables
-abbrev pub Does : {R : Type 0} → (MutBor (List ℕ) → Result R Refusal → MutBor (List ℕ) → Type 0) → (Result R Refusal → List ℕ → Left) → (List ℕ → Left) → Type 0
-Does {R} post left rule = (t : MutBor (List ℕ)) (r : Result R Refusal) (u : MutBor (List ℕ)) → post t r u → left r u.now ≡ rule t.now
+abbrev pub LeavesByRule : {R : Type 0} → (MutBor (List ℕ) → Result R Refusal → MutBor (List ℕ) → Type 0) → (Result R Refusal → List ℕ → Left) → (List ℕ → Left) → Type 0
+LeavesByRule {R} post left rule = (t : MutBor (List ℕ)) (r : Result R Refusal) (u : MutBor (List ℕ)) → post t r u → left r u.now ≡ rule t.now
 
 -- ON TABLES AND A WAKE LIST that is long enough
-abbrev pub OnLong : (MutBor (List ℕ) → MutBor (List ℕ) → Type 0) → Type 0
-OnLong pre = (t w : MutBor (List ℕ)) → valid_cells t.now ≡ true → wake_length ≤ length w.now → pre t w
+abbrev pub OnSoundAndLong : (MutBor (List ℕ) → MutBor (List ℕ) → Type 0) → Type 0
+OnSoundAndLong pre = (t w : MutBor (List ℕ)) → valid_cells t.now ≡ true → wake_length ≤ length w.now → pre t w
 
-abbrev pub RefusesWoken : {R : Type 0} → (Result R Refusal → List ℕ → List ℕ → Left) → Type 0
-RefusesWoken left = (e : Refusal) (t w : List ℕ) → left (Err e) t w ≡ refused_with (number_of e) t (wake_lent w)
+abbrev pub LeavesRefusalsWoken : {R : Type 0} → (Result R Refusal → List ℕ → List ℕ → Left) → Type 0
+LeavesRefusalsWoken left = (e : Refusal) (t w : List ℕ) → left (Err e) t w ≡ refused_with (number_of e) t (wake_lent w)
 
-abbrev pub DoesWoken : {R : Type 0} → (MutBor (List ℕ) → MutBor (List ℕ) → Result R Refusal → MutBor (List ℕ) → MutBor (List ℕ) → Type 0) → (Result R Refusal → List ℕ → List ℕ → Left) → (List ℕ → List ℕ → Left) → Type 0
-DoesWoken {R} post left rule = (t w : MutBor (List ℕ)) (r : Result R Refusal) (u v : MutBor (List ℕ)) → post t w r u v → left r u.now v.now ≡ rule t.now w.now
+abbrev pub LeavesByRuleWoken : {R : Type 0} → (MutBor (List ℕ) → MutBor (List ℕ) → Result R Refusal → MutBor (List ℕ) → MutBor (List ℕ) → Type 0) → (Result R Refusal → List ℕ → List ℕ → Left) → (List ℕ → List ℕ → Left) → Type 0
+LeavesByRuleWoken {R} post left rule = (t w : MutBor (List ℕ)) (r : Result R Refusal) (u v : MutBor (List ℕ)) → post t w r u v → left r u.now v.now ≡ rule t.now w.now
 
 -- corrupt tables first, then a wake list that is too short
 abbrev pub tested : List ℕ → List ℕ → Left → Left

@@ -1,19 +1,18 @@
-// What the public calls share: the test of the tables, and for calls that write also that of the wake list, before
-// their work.
+// What the public calls share: before their work the test of the tables, and in those that wake that of the wake list.
 #![tactic(auto)]
 
 ghost use Rattle.std.specs.Prelude.{◌≡◌, List, ℕ, Result};
 ghost use Rattle.model.specs.Calls.{nothing_lent};
 ghost use Rattle.cells.specs.Calls.{Result as Left, guarded};
 ghost use Rattle.ntsync_guard.specs.Values.{FoundSound};
-ghost use Rattle.ntsync_guard.specs.Work.{OnSound, Refuses, Does, OnLong, RefusesWoken, DoesWoken, tested};
+ghost use Rattle.ntsync_guard.specs.Work.{OnSound, LeavesRefusals, LeavesByRule, OnSoundAndLong, LeavesRefusalsWoken, LeavesByRuleWoken, tested};
 
 use kinds::Refusal;
 use tables::Cells;
 use validity::Sound;
 
 // A record for every wait place.
-pub const WAKE_LENGTH: usize = 3 * tables::WAIT_PLACES;
+const WAKE_LENGTH: usize = 3 * tables::WAIT_PLACES;
 
 // The lent tables, where they are valid.
 pub fn sound(tables: &[u64]) -> Result<Sound, Refusal>
@@ -32,36 +31,30 @@ pub fn guarded<R, F: FnOnce(&mut Cells) -> Result<R, Refusal>>(
     work: F,
 ) -> Result<R, Refusal>
     requires { OnSound (F.pre work) }
-    ensures { (left : Result R Refusal → List ℕ → Left) (rule : List ℕ → Left) → Refuses left
-        → Does (F.post work) left rule
+    ensures { (left : Result R Refusal → List ℕ → Left) (rule : List ℕ → Left) → LeavesRefusals left
+        → LeavesByRule (F.post work) left rule
         → left result tables.new ≡ guarded nothing_lent tables.old (rule tables.old) }
 {
-    let Some(t) = tables.as_mut_array() else {
-        return Err(Refusal::Corrupt);
-    };
-    let Ok(_) = sound(t) else {
-        return Err(Refusal::Corrupt);
-    };
+    let t = tables.as_mut_array().ok_or(Refusal::Corrupt)?;
+    sound(t)?;
     work(t)
 }
 
 // The work of a call that wakes; corrupt tables are refused before it, then a wake list that is too short.
+// kept: not over `guarded`: tried, and the proof didn't close. No clause says that a closure that is let go uncalled
+// leaves the wake list that it holds as it was.
 pub fn guarded_wake<R, F: FnOnce(&mut Cells, &mut [u64]) -> Result<R, Refusal>>(
     tables: &mut [u64],
     wake: &mut [u64],
     work: F,
 ) -> Result<R, Refusal>
-    requires { OnLong (F.pre work) }
-    ensures { (left : Result R Refusal → List ℕ → List ℕ → Left) (rule : List ℕ → List ℕ → Left) → RefusesWoken left
-        → DoesWoken (F.post work) left rule
+    requires { OnSoundAndLong (F.pre work) }
+    ensures { (left : Result R Refusal → List ℕ → List ℕ → Left) (rule : List ℕ → List ℕ → Left)
+        → LeavesRefusalsWoken left → LeavesByRuleWoken (F.post work) left rule
         → left result tables.new wake.new ≡ tested tables.old wake.old (rule tables.old wake.old) }
 {
-    let Some(cells) = tables.as_mut_array() else {
-        return Err(Refusal::Corrupt);
-    };
-    let Ok(_) = sound(cells) else {
-        return Err(Refusal::Corrupt);
-    };
+    let cells = tables.as_mut_array().ok_or(Refusal::Corrupt)?;
+    sound(cells)?;
     if wake.len() < WAKE_LENGTH {
         return Err(Refusal::ListShort);
     }

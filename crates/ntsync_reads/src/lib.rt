@@ -98,7 +98,8 @@ impl From<Result<(u32, u32), Refusal>> for EventState {
     }
 }
 
-// kept: a function for each kind, of one line, since each says in its contract what it reads.
+// kept: a function for each kind, where `?` hands on the refusal: `sound(tables).and_then(|t| ..)` in each public read
+// is no plainer.
 fn semaphore(tables: &[u64], handle: u32) -> Result<(u32, u32), Refusal>
     ensures { left_by numbers result tables.now
         ≡ guarded nothing_lent tables.now (read_cells a_semaphore handle tables.now nothing_lent) }

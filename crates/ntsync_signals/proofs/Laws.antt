@@ -22,7 +22,7 @@ use Rattle.signals.specs.Values.{left_by, told_by}
 use Rattle.ntsync_guard.proofs.Laws.{shown, means, tests}
 use Rattle.ntsync_guard.specs.Work.{tested}
 
--- a call whose cells test the wake list and then do the rest, by the number of the tests
+-- a call whose cells test the wake list and then do the rest, by the number of the tests (to be read, as landing 3 names them: no proof needs them)
 module _ (t wake : List ℕ) {a : ℕ} (q : a ≡ tests t wake) (op : Operation) (rest : Left)
     (d : on_cells op t (wake_lent wake) ≡ cond (ltb (length wake) wake_length) (refused_with 12 t (wake_lent wake)) rest) (w : Words t) where
   pub wakes_refused : (a ≡ 0 → ⊥) → seen (table_step t (asks op (wake_lent wake))) ≡ shown (refused_with a t (wake_lent wake))
@@ -33,8 +33,8 @@ module _ (t wake : List ℕ) {a : ℕ} (q : a ≡ tests t wake) (op : Operation)
   pub wakes_done : {r : Left} → a ≡ 0 → r ≡ rest → seen (table_step t (asks op (wake_lent wake))) ≡ shown r
   wakes_done z e = means op t (wake_lent wake) w (by_bool (valid_cells t)
       (λ y. by_bool (ltb (length wake) wake_length)
-        (λ s. absurd (let k : a ≡ 12 = q ∙ rw (y, s) in let n : ⊥ = omega arith in n))
-        (λ s. rw (y, d, s) e))
+      (λ s. absurd (let k : a ≡ 12 = q ∙ rw (y, s) in let n : ⊥ = omega arith in n))
+      (λ s. rw (y, d, s) e))
       (λ y. absurd (let k : a ≡ 9 = q ∙ rw y in let n : ⊥ = omega arith in n)))
 
 -- what C is told is what a host sees

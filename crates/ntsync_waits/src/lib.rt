@@ -77,6 +77,7 @@ fn wait(
     })
 }
 
+// kept: eight arguments, here and in `wait_all`: the signature of a public call may not change.
 pub fn wait_any(
     tables: &mut [u64],
     list: &[u32],

@@ -2,15 +2,13 @@
 // for, and valid tables where a number is handed back: the public calls have tested both.
 #![tactic(auto)]
 
-ghost use Rattle.std.specs.Prelude.{◌≡◌, true, ◌≤◌, length, Ok};
+ghost use Rattle.std.specs.Prelude.{◌≡◌, true, ◌≤◌, length};
 ghost use Rattle.model.specs.Sizes.{wake_length};
 ghost use Rattle.model.specs.Calls.{wake_lent, post, unlock, kill, set_event, pulse_event};
-ghost use Rattle.cells.specs.Objects.{named, store};
+ghost use Rattle.cells.specs.Objects.{named};
 ghost use Rattle.cells.specs.Validity.{valid_cells};
-ghost use Rattle.cells.specs.Walk.{wake_cells};
-ghost use Rattle.cells.specs.Calls.{woke, signal_on, expire_on};
-ghost use Rattle.kinds.specs.Values.{cells_of};
-ghost use Rattle.signals.specs.Values.{left_by, told_by};
+ghost use Rattle.cells.specs.Calls.{signal_on, expire_on};
+ghost use Rattle.signals.specs.Values.{left_by, told_by, OnNamed, ChangedBy};
 
 use kinds::{Event, Object, Refusal};
 use tables::Cells;
@@ -50,56 +48,54 @@ impl From<Result<Woke, Refusal>> for Changed {
     }
 }
 
-// The next state is stored, and the walk follows.
-fn apply(t: &mut Cells, wake: &mut [u64], h: u64, previous: u32, next: Object) -> Woke
-    requires { wake_length ≤ length wake.old }
-    ensures { left_by (Ok result) t.new wake.new
-        ≡ woke previous (wake_cells (store t.old h (cells_of next)) h wake.old) (wake_lent wake.old) }
+// An object's change: its rule says the number handed back and the next state, which is stored, and the walk follows.
+fn change<F: FnOnce(Object) -> Result<(u32, Object), Refusal>>(
+    t: &mut Cells,
+    wake: &mut [u64],
+    h: u64,
+    rule: F,
+) -> Result<Woke, Refusal>
+    requires long { wake_length ≤ length wake.old }
+    requires ruled { OnNamed (F.pre rule) h t.old }
+    ensures { ChangedBy (F.post rule) h t.old wake.old (left_by result t.new wake.new) }
 {
+    let (previous, next) = rule(tables::named(t, h))?;
     tables::store(t, h, next);
     let k = walk::wake(t, wake, h);
-    Woke {
+    Ok(Woke {
         previous,
         woken: k as u32,
-    }
+    })
 }
 
-// kept: here, in `unlock`, `set` and `pulse`, and in `calls::reset`, valid tables are a clause, since the tables
-// change: in a struct as `validity::Sound`, which the reads take, they would have to be proved valid again.
+// kept: here, in `unlock`, `set` and `pulse`, and in `calls::reset`, valid tables are a clause: a struct as
+// `validity::Sound`, over a `&mut`, is no plainer, since clauses would say `t.exit.0.now` for `t.new`.
 pub fn post(t: &mut Cells, wake: &mut [u64], h: u64, add: u64) -> Result<Woke, Refusal>
     requires { (valid_cells t.old ≡ true) × (wake_length ≤ length wake.old) }
     ensures { left_by result t.new wake.new ≡ signal_on (post add) h (named t.old h) t.old (wake_lent wake.old) }
 {
-    let o = tables::named(t, h);
-    let next = o.post(add)?;
-    Ok(apply(t, wake, h, o.count as u32, next))
+    change(t, wake, h, |o| Ok((o.count as u32, o.post(add)?)))
 }
 
 pub fn unlock(t: &mut Cells, wake: &mut [u64], h: u64, asking: u64) -> Result<Woke, Refusal>
     requires { (valid_cells t.old ≡ true) × (wake_length ≤ length wake.old) }
     ensures { left_by result t.new wake.new ≡ signal_on (unlock asking) h (named t.old h) t.old (wake_lent wake.old) }
 {
-    let o = tables::named(t, h);
-    let next = o.unlock(asking)?;
-    Ok(apply(t, wake, h, o.count as u32, next))
+    change(t, wake, h, |o| Ok((o.count as u32, o.unlock(asking)?)))
 }
 
 pub fn kill(t: &mut Cells, wake: &mut [u64], h: u64, asking: u64) -> Result<Woke, Refusal>
     requires { wake_length ≤ length wake.old }
     ensures { left_by result t.new wake.new ≡ signal_on (kill asking) h (named t.old h) t.old (wake_lent wake.old) }
 {
-    let o = tables::named(t, h);
-    let next = o.kill(asking)?;
-    Ok(apply(t, wake, h, 0, next))
+    change(t, wake, h, |o| Ok((0, o.kill(asking)?)))
 }
 
 pub fn set(t: &mut Cells, wake: &mut [u64], h: u64) -> Result<Woke, Refusal>
     requires { (valid_cells t.old ≡ true) × (wake_length ≤ length wake.old) }
     ensures { left_by result t.new wake.new ≡ signal_on set_event h (named t.old h) t.old (wake_lent wake.old) }
 {
-    let o = tables::named(t, h);
-    let next = o.switch(Event::SET)?;
-    Ok(apply(t, wake, h, o.count as u32, next))
+    change(t, wake, h, |o| Ok((o.count as u32, o.switch(Event::SET)?)))
 }
 
 // As set; then the event is cleared, whoever took it.

@@ -1,7 +1,7 @@
+use borrow.Author.Rules.{rules}
 use Rattle.refine.proofs.Validity.{small_of}
 use Rattle.kinds.specs.Values.{cells_of}
-use native.Mathlib.Omega.{arith}
 use Rattle.signals.proofs.unlock.Goals as goal
 
-pub overflow_cast-o : goal.overflow_cast-o
-overflow_cast-o c = let a = c.args in omega (arith, small_of a.t.now a.h (cells_of c.named-o.result) c.named-o.ensures c.requires.0)
+pub change-requires-clause-ruled : goal.change-requires-clause-ruled
+change-requires-clause-ruled c = λ o e. let k = small_of c.args.t.now c.args.h (cells_of o) e c.requires.0 in search (rules, k)
