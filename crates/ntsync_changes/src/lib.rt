@@ -7,12 +7,9 @@ ghost use Rattle.model.specs.Steps.{table_step, seen, sees};
 ghost use Rattle.cells.specs.Calls.{guarded, close_cells, reset_cells, cancel_cells};
 ghost use Rattle.calls.specs.Values.{left_by, done, number, cancelled};
 
-use kinds::Refusal;
+use kinds::{Answer, Refusal};
 use ntsync_guard::guarded;
 use signals::{Changed, Woke};
-
-// The answer of a wait that was cancelled.
-const INTERRUPTED: u32 = 6;
 
 fn try_close(tables: &mut [u64], handle: u32) -> Result<(), Refusal>
     ensures { left_by done result tables.new
@@ -59,7 +56,7 @@ pub fn cancel(tables: &mut [u64], ticket: u64) -> u32
         ≡ sees (result ∷ 0 ∷ 0 ∷ 0 ∷ []) nothing_lent tables.new }
 {
     match try_cancel(tables, ticket) {
-        Ok(()) => INTERRUPTED,
+        Ok(()) => u32::from(Answer::Interrupted),
         Err(r) => u32::from(r),
     }
 }
