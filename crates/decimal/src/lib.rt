@@ -6,8 +6,8 @@ ghost use Rattle.model.specs.Snapshot.{digits_up_to};
 ghost use Rattle.decimal.specs.Text.{Room, Wrote};
 ghost use Rattle.decimal.specs.Writing.{HasRoom, Appended};
 
-// A buffer, and the place behind what is written in it. kept: a place beside the buffer, since there is no Vec (no heap)
-// and the sum reads the front.
+// A buffer, and the place behind what is written in it.
+// kept: a place beside the buffer. There is no Vec (no heap), and the sum reads the front.
 #[derive(Drop)]
 pub struct Writer<'a> {
     pub buf: &'a mut [u8],
@@ -64,8 +64,9 @@ fn digit_count(n: u64) -> usize
     if n == 0 { 1 } else { n.ilog10() as usize + 1 }
 }
 
-// The digits of n with no leading zeros; the place behind them. Not inlined, or `line` grows too large to be: then memmove,
-// which include/ntsync.h says no host need have, copies each key, and a snapshot takes a fifth more instructions.
+// The digits of n with no leading zeros; the place behind them.
+// Not inlined, or `line` grows too large to be: each key is then copied by memmove, which include/ntsync.h says no host
+// need have, and a snapshot takes a fifth more instructions.
 #[inline(never)]
 fn put_number(buf: &mut [u8], at: usize, n: u64) -> usize
     requires { Room buf.old at (digits_up_to 19 n) }
