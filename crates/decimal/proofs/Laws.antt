@@ -1,14 +1,12 @@
--- One text after another; how many digits a number has, and each of them from the last one on.
+-- One text after another; how many digits a number has, and that the kit writes them.
 use Prim.Native.Nat.{ℕ, zero, suc, ◌+◌, ◌*◌, ◌/◌, ◌%◌, ◌^◌, ◌≤◌, ◌<◌}
 use mathlib.Core.Path.{◌≡◌, refl, sym, ap, ◌∙◌}
-use mathlib.Core.Bool.{cond}
 use mathlib.Core.List.{List, [], ◌∷◌, ◌++◌, append_assoc}
 use native.Mathlib.Omega.{arith}
 use native.Mathlib.Nat.{add-zero, pow-suc}
-use lib.Dec.{ltb}
 use lib.ListN.{length, set, take, drop, length-append}
 use Rattle.std.proofs.Common.{drop-drop}
-use lib.Seq.{sets, sets-eq, length-sets, set_comm}
+use lib.Seq.{sets, sets-eq, length-sets}
 use Rattle.model.specs.Snapshot.{digits_up_to}
 use Rattle.model.proofs.Digits.{digits_one, digits_more}
 use borrow.Rule.Slice.PartMut.{put_mid}
@@ -16,6 +14,9 @@ use Rattle.decimal.specs.declared.Writer.{Writer}
 use Rattle.decimal.specs.Text.{Room, Wrote}
 use Rattle.decimal.specs.Writing.{HasRoom, Appended}
 use lib.Seq.{take-append_seam}
+use Rattle.std.specs.Fmt.{decimal}
+use Rattle.std.proofs.lemmas.Fmt.{decimal_by_steps}
+use Rattle.std.proofs.lemmas.List.{take-append-drop}
 
 sets_then : (buf x y : List ℕ) (at : ℕ) → sets (sets buf at x) (at + length x) y ≡ sets buf at (x ++ y)
 sets_then buf [] y at = rw (add-zero at)
@@ -82,23 +83,15 @@ count_is zero n l h w = count_one n (let e : 10 ^ 0 ≡ 1 = refl in omega arith)
 count_is (suc k) n l h w = let p : 10 ^ suc k ≡ 10 ^ k * 10 = pow-suc 10 k in let s = pow_some k in
     count_more n (omega arith) w ∙ (let e = count_is k (n / 10) (omega arith) (omega arith) (omega arith) in omega arith)
 
-pub count_some : (n : ℕ) → 1 ≤ length (digits_up_to 19 n)
-unfolding digits_up_to
-count_some n = let front = cond (ltb n 10) [] (digits_up_to 18 (n / 10)) in let e = length-append front ((48 + n % 10) ∷ []) in omega arith
+-- WRITING: the kit's digits are the meaning's
+pub decimal_is : (n : ℕ) → n < 2 ^ 64 → decimal n ≡ digits_up_to 19 n
+decimal_is n h = decimal_by_steps (λ m ds. m < 2 ^ 64 → ds ≡ digits_up_to 19 m) (λ m l w. sym (digits_one m l))
+    (λ m ds l e w. sym (digits_more m l (below m w) ∙ ap (λ (x : List ℕ). x ++ ((48 + m % 10) ∷ [])) (sym (e (omega arith))))) n h h
 
--- WRITING: a byte behind a text may be stored before the text is
-sets_past : (x buf : List ℕ) (at j b : ℕ) → at + length x ≤ j → set (sets buf at x) j b ≡ sets (set buf j b) at x
-sets_past [] buf at j b h = refl
-sets_past (a ∷ x) buf at j b h = sets_past x (set buf at a) (suc at) j b (omega arith) ∙ ap (λ (s : List ℕ). sets s (suc at) x) (set_comm buf at j a b (λ e. omega arith))
-
--- the last digit stored at its place, or the only one: those of the tenth are left to write, or none
-module _ (buf : List ℕ) (at place n : ℕ) (p : place + 1 ≡ at + length (digits_up_to 19 n)) where
-  pub digit_more : 10 ≤ n → n < 2 ^ 64 → sets (set buf place (48 + n % 10)) at (digits_up_to 19 (n / 10)) ≡ sets buf at (digits_up_to 19 n)
-  digit_more l h = let x : List ℕ = digits_up_to 19 (n / 10) in let d : ℕ = 48 + n % 10 in let c = count_more n l h in let e : place ≡ at + length x = omega arith in
-      rw (e, digits_more n l (below n h)) (sym (sets_past x buf at (at + length x) d (omega arith)) ∙ sets_then buf x (d ∷ []) at)
-
-  pub digit_one : n < 10 → set buf place (48 + n) ≡ sets buf at (digits_up_to 19 n)
-  digit_one h = let c = count_one n h in let e : place ≡ at = omega arith in rw (e, digits_one n h)
+-- a text written so that it ends behind its room, the other bytes as they were
+pub written_there : (buf end x : List ℕ) (at r : ℕ) → Room buf at x → r + length x ≡ at + length x → drop r end ≡ x ++ drop (at + length x) buf → take r end ≡ take r buf → end ≡ sets buf at x
+written_there buf end x at r room e d t = let p : r ≡ at = omega arith in
+    sym (take-append-drop r end) ∙ rw (t, d, p) (sym (sets-eq x buf at room ∙ append_assoc (take at buf) x (drop (at + length x) buf)))
 
 -- what was written at the front of a buffer is its front
 module _ (buf x : List ℕ) (r : ℕ) (end : List ℕ) (room : Room buf 0 x) (w : Wrote buf 0 x r end) where

@@ -7,6 +7,7 @@ ghost use Rattle.decimal.specs.Text.{Room, Wrote};
 ghost use Rattle.decimal.specs.Writing.{HasRoom, Appended};
 
 // A buffer, and the place behind what is written in it.
+// kept: a place beside the buffer. There is no Vec (no heap), and the sum reads the front.
 #[derive(Drop)]
 pub struct Writer<'a> {
     pub buf: &'a mut [u8],
@@ -63,20 +64,15 @@ fn digit_count(n: u64) -> usize
     if n == 0 { 1 } else { n.ilog10() as usize + 1 }
 }
 
-// The digits of n with no leading zeros, from the last one on, each straight to its place. kept: a loop by hand, since
-// one over the digits' places is unrolled by the compiler, and a snapshot half as slow again (docs/DECISIONS.md, 41).
+// The digits of n with no leading zeros; the place behind them.
+// Not inlined, or `line` grows too large to be: each key is then copied by memmove, which include/ntsync.h says no host
+// need have, and a snapshot takes a fifth more instructions.
+#[inline(never)]
 fn put_number(buf: &mut [u8], at: usize, n: u64) -> usize
     requires { Room buf.old at (digits_up_to 19 n) }
     ensures { Wrote buf.old at (digits_up_to 19 n) result buf.new }
 {
     let end = at + digit_count(n);
-    let mut place = end - 1;
-    let mut rest = n;
-    while 10 <= rest {
-        buf[place] = b'0' + (rest % 10) as u8;
-        rest = rest / 10;
-        place -= 1;
-    }
-    buf[place] = b'0' + rest as u8;
+    itoa::write_digits(n, buf, end);
     end
 }

@@ -192,7 +192,7 @@ module _ (key : List ℕ) (low high : ℕ) (t : List ℕ) where
       pub in_range : low ≤ n → number_of key low high t ≡ good n rest
       in_range l = keyed ∙ rw (h, le-leb low n l)
 
--- what code reads is a line of the meaning
+-- what code reads is a line of the meaning; to be read, no proof needs it (docs/DECISIONS.md, 76)
 pub number_of_lem : (key : String) (low high : ℕ) (t : List ℕ) → number_line key low high t ≡ number_of (ascii key) low high t
 unfolding number_line number_of line
 number_of_lem key low high t = refl
@@ -207,7 +207,7 @@ module _ {A B : Type 0} (m : Reader A) (f : A → Reader B) (t : List ℕ) where
   unfolding ◌>>=◌
   seq_stop h = rw h
 
--- what is told of a reading is told, by way of g, of it and what it gives
+-- what is told of a reading is told, by way of g, of it and what it gives; to be read, no proof needs it (docs/DECISIONS.md, 74)
 module _ {A B C : Type 0} (m : Reader A) (f : C → A) (g : A → B) (t : List ℕ) where
   pub seq_last : (rest : List ℕ) (r : Result C NotDue) → Told f (m t) rest r → Told (λ v. g (f v)) ((m >>= λ a. give (g a)) t) rest r
   unfolding ◌>>=◌ give

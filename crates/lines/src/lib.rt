@@ -8,7 +8,7 @@ ghost use Rattle.model.specs.Reading.{good, bad, after};
 ghost use Rattle.lines.specs.Outcome.{figure, number_of, either_of, Told};
 
 // The text from the first line on that is not as due.
-#[derive(Clone, Copy, Debug, PartialEq, Eq)]
+#[derive(Clone, Copy)]
 pub struct NotDue<'a> {
     pub from: &'a [u8],
 }
@@ -41,6 +41,7 @@ fn with_digit(n: u64, d: u64, high: u64) -> Option<u64>
 }
 
 // A plain number of at most `high` and its line feed, and the rest: no sign and no leading zero pass.
+// kept: digit by digit. std's `parse` takes a plus and leading zeros, of a `&str` that has nothing behind the number.
 fn number(text: &[u8], high: u64) -> Option<(u64, &[u8])>
     ensures { MatchOption result (number_of [] 0 high text.now ≡ bad text.now)
         (λ x. number_of [] 0 high text.now ≡ good x.0 x.1.now) }

@@ -12,7 +12,7 @@ use kinds::{Event, Mutex, Object, Refusal, Semaphore};
 
 // kept: the C interface's struct, an answer with a number beside it
 #[repr(C)]
-#[derive(Clone, Copy, Debug, PartialEq, Eq)]
+#[derive(Clone, Copy)]
 pub struct Created {
     pub answer: u32,
     pub handle: u32,

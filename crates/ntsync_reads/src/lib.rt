@@ -13,7 +13,7 @@ use ntsync_guard::sound;
 
 // kept: the C interface's structs, an answer with two numbers beside it
 #[repr(C)]
-#[derive(Clone, Copy, Debug, PartialEq, Eq)]
+#[derive(Clone, Copy)]
 pub struct SemaphoreState {
     pub answer: u32,
     pub count: u32,
@@ -21,7 +21,7 @@ pub struct SemaphoreState {
 }
 
 #[repr(C)]
-#[derive(Clone, Copy, Debug, PartialEq, Eq)]
+#[derive(Clone, Copy)]
 pub struct MutexState {
     pub answer: u32,
     pub owner: u32,
@@ -29,7 +29,7 @@ pub struct MutexState {
 }
 
 #[repr(C)]
-#[derive(Clone, Copy, Debug, PartialEq, Eq)]
+#[derive(Clone, Copy)]
 pub struct EventState {
     pub answer: u32,
     pub signaled: u32,

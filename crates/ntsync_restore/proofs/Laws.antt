@@ -7,7 +7,7 @@ use lib.ListN.{length, replicate}
 use Rattle.model.specs.Basics.{all_of}
 use Rattle.model.specs.Calls.{nothing_lent}
 use Rattle.model.specs.Layout.{table_length, encode, valid_state, valid_tables}
-use Rattle.model.specs.Steps.{Outcome, sees, seen, unaltered}
+use Rattle.model.specs.Steps.{Outcome, seen, unaltered}
 use Rattle.model.specs.Reading.{good, Lines, read_snapshot}
 use Rattle.model.specs.Restore.{shown, quiet, Restored, accepted, refused, restored, by_restored, unread, restore_tables}
 use Rattle.model.specs.RestoreTests.{in_order}
@@ -22,9 +22,10 @@ use Rattle.refine.proofs.Quiet.{quiet_is}
 use Rattle.model.specs.Waits.{State}
 use Rattle.model.proofs.Cells.{Shaped}
 use Rattle.reader.specs.Values.{AllStored, Stopped}
-use Rattle.ntsync_restore.specs.Judged.{JudgedAs}
-use Rattle.std.specs.Prelude.{Ok, Err}
+use Rattle.ntsync_restore.specs.Judged.{JudgedAs, told_by}
+use Rattle.std.specs.Prelude.{Result, Ok, Err, IsErr, IsErrAnd}
 use Rattle.ntsync_restore.specs.declared.Refused.{Refused}
+use Rattle.ntsync_restore.specs.declared.Refused.TheVariants.{Corrupt, NotASnapshot}
 use Rattle.reader.proofs.Storing.{built_is, shown_shaped, shaped_test}
 
 -- THE TESTS of what was read
@@ -85,7 +86,7 @@ well_read text end fine h = let g : Sensible h.lines = (snapshot_exact.exact tex
     record { lines = h.lines; rest = h.rest; read = h.reads; cells = h.kept ∙ built_is h.lines g; order = h.order; shaped = shown_shaped h.lines g }
 
 -- THE TEXT, judged
-pub not_read : (text from end : List ℕ) → Stopped text from → JudgedAs (restored text) (Err (record { offset = length text - length from })) end
+pub not_read : (text from end : List ℕ) → Stopped text from → JudgedAs (restored text) (Err (NotASnapshot (length text - length from))) end
 unfolding restored
 not_read text from end h = rw h.reads refl
 
@@ -106,7 +107,7 @@ module _ (text end : List ℕ) (fine : Bool) (h : AllStored text blank end fine)
   known : {b : Bool} → a ≡ b → restored text ≡ cond b (accepted state) (refused 0)
   known e = judged ∙ ap (λ (b : Bool). cond b (accepted state) (refused 0)) e
 
-  pub not_accepted : a ≡ false → JudgedAs (restored text) (Err (record { offset = 0 })) end
+  pub not_accepted : a ≡ false → JudgedAs (restored text) (Err (NotASnapshot 0)) end
   not_accepted n = rw (known n) refl
 
   pub read_back : a ≡ true → JudgedAs (restored text) (Ok tt) end
@@ -114,27 +115,33 @@ module _ (text end : List ℕ) (fine : Bool) (h : AllStored text blank end fine)
   read_back e = rw (known e) read.cells
 
 -- THE CALL
+-- what a `?` hands on of a refusal
+pub told_on : (r : Result (Unit {0}) Refused) (e : Refused) (t : List ℕ) → IsErr r × IsErrAnd r (λ x. x ≡ e) → told_by (Err e) t ≡ told_by r t
+told_on (Ok _) e t h = absurd h.1
+told_on (Err d) e t h = rw h.1
+
 module _ (t text : List ℕ) where
-  pub wrong_length : (length t ≡ table_length → ⊥) → seen (restore_tables t text) ≡ sees (9 ∷ 0 ∷ 0 ∷ 0 ∷ []) nothing_lent t
+  pub wrong_length : (length t ≡ table_length → ⊥) → seen (restore_tables t text) ≡ told_by (Err Corrupt) t
   wrong_length n = ap seen ((reading t text).1 n)
 
   abbrev outcome : Restored → Outcome (List ℕ)
   outcome o = by_restored o (λ s. unaltered 0 nothing_lent (encode s)) (λ offset. unread offset t)
 
+  -- the lent tables are as they were, or those that were read
   module _ (full : length t ≡ table_length) (end : List ℕ) where
     told : restore_tables t text ≡ outcome (restored text)
     told = (reading t text).0 full
 
-    refusal : (o : Restored) (r : Refused) → JudgedAs o (Err r) end → seen (outcome o) ≡ sees (13 ∷ r.offset ∷ 0 ∷ 0 ∷ []) nothing_lent t
-    refusal (accepted s) r h = absurd h
-    refusal (refused offset) r h = rw h
+    refusal : (o : Restored) (e : Refused) → JudgedAs o (Err e) end → seen (outcome o) ≡ told_by (Err e) t
+    refusal (accepted s) e h = absurd h
+    refusal (refused offset) e h = rw h
 
-    acceptance : (o : Restored) → JudgedAs o (Ok tt) end → seen (outcome o) ≡ sees (0 ∷ 0 ∷ 0 ∷ 0 ∷ []) nothing_lent end
+    acceptance : (o : Restored) → JudgedAs o (Ok tt) end → seen (outcome o) ≡ told_by (Ok tt) end
     acceptance (accepted s) h = rw h
     acceptance (refused offset) h = absurd h
 
-    pub refused_whole : (r : Refused) → JudgedAs (restored text) (Err r) end → seen (restore_tables t text) ≡ sees (13 ∷ r.offset ∷ 0 ∷ 0 ∷ []) nothing_lent t
-    refused_whole r h = ap seen told ∙ refusal (restored text) r h
+    pub refused_whole : (e : Refused) → JudgedAs (restored text) (Err e) end → seen (restore_tables t text) ≡ told_by (Err e) t
+    refused_whole e h = ap seen told ∙ refusal (restored text) e h
 
-    pub accepted_whole : JudgedAs (restored text) (Ok tt) end → seen (restore_tables t text) ≡ sees (0 ∷ 0 ∷ 0 ∷ 0 ∷ []) nothing_lent end
+    pub accepted_whole : JudgedAs (restored text) (Ok tt) end → seen (restore_tables t text) ≡ told_by (Ok tt) end
     accepted_whole h = ap seen told ∙ acceptance (restored text) h

@@ -9,23 +9,47 @@ ghost use Rattle.model.specs.Layout.{table_length, valid_tables};
 ghost use Rattle.model.specs.Steps.{seen, sees};
 ghost use Rattle.model.specs.Restore.{restored, restore_tables};
 ghost use Rattle.cells.specs.Attempt.{some_servable};
-ghost use Rattle.ntsync_restore.specs.Judged.{JudgedAs};
+ghost use Rattle.ntsync_restore.specs.Judged.{JudgedAs, told_by, RestoredBy};
 
 use kinds::Refusal;
 use tables::Cells;
 
 // kept: the C interface's struct, an answer with an offset beside it
 #[repr(C)]
-#[derive(Clone, Copy, Debug, PartialEq, Eq)]
+#[derive(Clone, Copy)]
 pub struct Restored {
     pub answer: u32,
     pub offset: u64,
 }
 
-// A text that is no snapshot of a board as it must be: the offset of the line that is not as due, else 0.
-#[derive(Clone, Copy, Debug, PartialEq, Eq)]
-struct Refused {
-    offset: usize,
+// Why the tables stay as they were.
+#[derive(Clone, Copy)]
+enum Refused {
+    // the lent tables have another length
+    Corrupt,
+    // no snapshot of a board as it must be: the offset of the line that is not as due, else 0
+    NotASnapshot(usize),
+}
+
+impl From<Result<(), Refused>> for Restored {
+    ghost from_gives = { RestoredBy };
+
+    fn from(r: Result<(), Refused>) -> Restored {
+        match r {
+            Ok(()) => Restored {
+                answer: 0,
+                offset: 0,
+            },
+            Err(Refused::Corrupt) => Restored {
+                answer: u32::from(Refusal::Corrupt),
+                offset: 0,
+            },
+            Err(Refused::NotASnapshot(offset)) => Restored {
+                answer: u32::from(Refusal::NotASnapshot),
+                offset: offset as u64,
+            },
+        }
+    }
 }
 
 // The lines were in order, what they show is valid, and no wait in it could be served.
@@ -43,36 +67,25 @@ fn judge(text: &[u8], read: &mut Cells) -> Result<(), Refused>
 {
     match reader::read_snapshot(text, read) {
         Ok(in_order) if acceptable(in_order, read) => Ok(()),
-        Ok(_) => Err(Refused { offset: 0 }),
-        Err(line) => Err(Refused {
-            offset: text.len() - line.from.len(),
-        }),
+        Ok(_) => Err(Refused::NotASnapshot(0)),
+        Err(line) => Err(Refused::NotASnapshot(text.len() - line.from.len())),
     }
 }
 
 // Of the lent tables only the length is looked at.
+fn read_back(tables: &mut [u64], text: &[u8]) -> Result<(), Refused>
+    ensures { seen (restore_tables tables.old text.now) ≡ told_by result tables.new }
+{
+    let t = tables.as_mut_array().ok_or(Refused::Corrupt)?;
+    let mut read: Cells = [0; tables::TABLE_LENGTH];
+    judge(text, &mut read)?;
+    *t = read;
+    Ok(())
+}
+
 pub fn restore(tables: &mut [u64], text: &[u8]) -> Restored
     ensures { seen (restore_tables tables.old text.now)
         ≡ sees (result.answer ∷ result.offset ∷ 0 ∷ 0 ∷ []) nothing_lent tables.new }
 {
-    let Some(t) = tables.as_mut_array() else {
-        return Restored {
-            answer: u32::from(Refusal::Corrupt),
-            offset: 0,
-        };
-    };
-    let mut read: Cells = [0; tables::TABLE_LENGTH];
-    match judge(text, &mut read) {
-        Ok(()) => {
-            *t = read;
-            Restored {
-                answer: 0,
-                offset: 0,
-            }
-        }
-        Err(refused) => Restored {
-            answer: u32::from(Refusal::NotASnapshot),
-            offset: refused.offset as u64,
-        },
-    }
+    Restored::from(read_back(tables, text))
 }

@@ -1,4 +1,4 @@
--- The snapshot, behind 9 and 12: from cells to the meaning.
+-- The snapshot, behind 9 and 12: there is room for the text, and what is left is what `cells` says.
 use Prim.Native.Nat.{ℕ, ◌<◌, ◌≤◌}
 use mathlib.Core.Path.{◌≡◌, ◌∙◌}
 use mathlib.Core.Bool.{true}

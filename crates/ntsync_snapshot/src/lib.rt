@@ -14,7 +14,7 @@ const SNAPSHOT_BUFFER: usize = 65536;
 
 // kept: the C interface's struct, an answer with a number beside it
 #[repr(C)]
-#[derive(Clone, Copy, Debug, PartialEq, Eq)]
+#[derive(Clone, Copy)]
 pub struct Written {
     pub answer: u32,
     pub length: u32,

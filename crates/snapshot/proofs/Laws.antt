@@ -7,7 +7,7 @@ use mathlib.Core.Logic.{⊎_elim}
 use native.Mathlib.Omega.{arith}
 use native.Mathlib.Nat.{zero-add, le_refl, eq-or-lt_of_le, le_of_suc-le-suc}
 use native.Mathlib.Numerals.{add-one}
-use borrow.Author.Tests.{ne_eqb, lt-ltb, le-ltb}
+use borrow.Author.Tests.{lt-ltb, le-ltb}
 use lib.ListN.{length, take, length-append}
 use Rattle.std.specs.List.{filter, range_with_len}
 use Rattle.std.proofs.lemmas.List.FromFn.{filter_of_map_range_with_len_more}
@@ -16,8 +16,7 @@ use Rattle.model.proofs.Logic.{by_bool}
 use Rattle.model.specs.Snapshot.{line, byte_sum}
 use Rattle.cells.specs.Fold.{fold_below}
 use Rattle.model.specs.Basics.{bit}
-use Rattle.cells.specs.Objects.{Fields}
-use Rattle.cells.specs.Snapshot.{semaphore_text, mutex_text, event_text, fields_text, objects_text_below, object_total, wait_total, wait_lines, wait_text_at, waits_text_from, body_of, snapshot_of}
+use Rattle.cells.specs.Snapshot.{objects_text_below, object_total, wait_total, wait_lines, wait_text_at, waits_text_from, body_of, snapshot_of}
 use Rattle.cells.specs.Waits.{next_ticket, ticket_at, mode_at, owner_at, clock_at, timeout_at, alert_at, list_of, next_wait}
 use Rattle.model.specs.Sizes.{object_places, wait_places, word32}
 use Rattle.decimal.specs.declared.Writer.{Writer}
@@ -47,24 +46,6 @@ module _ (f : ℕ → List ℕ) {w : Writer} where
     pub text_more : {u : Writer} → Appended v u (f i) → Appended w u (text_below f (i + 1))
     unfolding fold_below
     text_more b = rw add-one (appended_then (text_below f i) (f i) a b)
-
--- an object by its kind
-module _ (h : ℕ) (x : Fields) where
-  pub text_semaphore : x.kind ≡ 1 → fields_text h x ≡ semaphore_text h x
-  unfolding fields_text
-  text_semaphore e = rw e
-
-  pub text_mutex : x.kind ≡ 2 → fields_text h x ≡ mutex_text h x
-  unfolding fields_text
-  text_mutex e = rw e
-
-  pub text_event : x.kind ≡ 3 → fields_text h x ≡ event_text h x
-  unfolding fields_text
-  text_event e = rw e
-
-  pub text_empty : (x.kind ≡ 1 → ⊥) → (x.kind ≡ 2 → ⊥) → (x.kind ≡ 3 → ⊥) → fields_text h x ≡ []
-  unfolding fields_text
-  text_empty a b c = rw (ne_eqb x.kind 1 a, ne_eqb x.kind 2 b, ne_eqb x.kind 3 c)
 
 -- counting
 abbrev pub counted : (ℕ → Bool) → ℕ → ℕ

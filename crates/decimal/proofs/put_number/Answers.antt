@@ -1,23 +1,10 @@
-use Prim.Native.Nat.{◌/◌}
-use mathlib.Core.Path.{refl, ◌∙◌}
-use lib.ListN.{length-set}
-use Rattle.decimal.proofs.Laws.{count_more, count_some, digit_more, digit_one}
-use native.Mathlib.Omega.{arith}
-use borrow.Author.Rules.{rules}
+use Rattle.std.proofs.Common.{arith, rules}
+use Rattle.decimal.proofs.Laws.{decimal_is, written_there}
 use Rattle.decimal.proofs.put_number.Goals as goal
 
-pub overflow_sub-place : goal.overflow_sub-place
-overflow_sub-place c = search (rules, count_some c.args.n)
-
-pub loop-rest-init : goal.loop-rest-init
-loop-rest-init c = let s = count_some c.args.n in (search rules, search rules, refl, omega arith, refl)
-
-pub overflow_sub-place-in-loop-rest : goal.overflow_sub-place-in-loop-rest
-overflow_sub-place-in-loop-rest c = let r = c.loop-rest.rest in search (rules, count_more r (omega arith) (search rules), count_some (r / 10))
-
-pub loop-rest-preserved : goal.loop-rest-preserved
-loop-rest-preserved c = let l = c.loop-rest in let p = l.invariant.3 in let m = count_more l.rest (omega arith) (search rules) in let s = count_some (l.rest / 10) in
-    (search rules, search rules, simp length-set l.invariant.2, omega arith, digit_more l.buf c.args.at l.place l.rest p (omega arith) (search rules) ∙ l.invariant.4)
+pub write_digits-requires : goal.write_digits-requires
+write_digits-requires c = let e = decimal_is c.args.n (search rules) in let d = c.digit_count.ensures in rw (e, d) (omega arith, omega arith)
 
 pub returns : goal.returns
-returns c = let l = c.loop-rest in (digit_one l.buf c.args.at l.place l.rest l.invariant.3 (omega arith) ∙ l.invariant.4, search rules)
+returns c = let e = decimal_is c.args.n (search rules) in let d = c.digit_count.ensures in let k = c.write_digits.ensures in
+    (written_there c.args.buf.now c.write_digits.new.buf _ c.args.at c.write_digits.result c.requires (rw (e, d) at k.start) (rw (e, d) at k.written) k.before, rw d)
