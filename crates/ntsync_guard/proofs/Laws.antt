@@ -57,7 +57,7 @@ module _ (t : List ℕ) {u : List ℕ} (same : u ≡ t) where
     pub long_in : {s : Left} → valid_cells u ≡ true → wake_length ≤ length wake → s ≡ r → s ≡ tested t wake r
     long_in y l e = rw (← same, y, le-ltb (length wake) wake_length l) e
 
--- which of the two tests of the calls that wake refuses: 9, then 12, or none (for ntsync_signals' `wakes_refused` and `wakes_done`)
+-- which of the two tests of the calls that wake refuses: 9, then 12, or none; for `wakes_refused` and `wakes_done` of ntsync_signals alone, which landing 3 names
 abbrev pub tests : List ℕ → List ℕ → ℕ
 tests t wake = cond (valid_cells t) (cond (ltb (length wake) wake_length) 12 0) 9
 
