@@ -6,7 +6,8 @@ use mathlib.Core.Bool.{true, false, cond}
 use mathlib.Core.List.{List, [], ◌∷◌}
 use lib.ListN.{length}
 use lib.Dec.{ltb}
-use Rattle.std.specs.Prelude.{Option, None, Result, Ok, Err}
+use Rattle.std.specs.Borrow.{MutBor}
+use Rattle.std.specs.Prelude.{Option, None, Some, MatchOption, Result, Ok, Err}
 use Rattle.std.specs.Option.{ok_or}
 use Rattle.std.proofs.lemmas.Result.{IfErr-at_err}
 use Rattle.std.specs.Result.{IsErr, IsErrAnd}
@@ -33,9 +34,11 @@ handed_on (Err d) h = ap Err h.1
 pub none_handed_on : {T R E : Type 0} {d e : E} (o : Option T) (r : Result R E) → IsErr r × IsErrAnd r (λ x. x ≡ d) → Err d ≡ ok_or o e → o ≡ None → r ≡ Err e
 none_handed_on {d = d} o r h q n = handed_on r h ∙ ap Err (IfErr-at_err (λ x. d ≡ x) (q ∙ rw n) refl)
 
--- tables of another length are corrupt
-pub guarded_short : (t : List ℕ) (l : Lent) (r : Left) → (length t ≡ table_length → ⊥) → refused_with 9 t l ≡ guarded l t r
-guarded_short t l r n = rw (sym (whole_short t n))
+-- an array that is handed out of valid tables is all of them
+pub found_sound : (t : List ℕ) {P : MutBor (List ℕ) → Type 0} (o : Option (MutBor (List ℕ))) → ((y : MutBor (List ℕ)) → P y → y.now ≡ t) → valid_cells t ≡ true
+    → MatchOption o (length t ≡ table_length → ⊥) P → MatchOption o (valid_cells t ≡ false) (λ y. (y.now ≡ t) × (valid_cells y.now ≡ true))
+found_sound t (Some y) f v h = let e = f y h in (e, rw e v)
+found_sound t None f v h = sym (whole_short t h)
 
 -- every call: a result by the cells' definition is what a host sees
 pub means : (op : Operation) (t : List ℕ) (l : Lent) {r : Left} → Words t → r ≡ guarded l t (on_cells op t l) → seen (table_step t (asks op l)) ≡ shown r
