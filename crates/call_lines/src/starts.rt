@@ -22,8 +22,8 @@ impl Tables {
     {
         let mut cells = self.cells;
         let mut row = 0;
-        // kept: a loop. With `take_while(..).count()` the proof did not close: that its closure, which calls `call`, may
-        // be called at each number, even where `F.pre` is required at all arguments.
+        // kept: a loop. With `take_while(..).count()` the proof did not close: that its closure, which calls `call`,
+        // may be called at each number, even where `F.pre` is required at all arguments.
         for i in 1..=n {
             if !call(&mut cells, i) {
                 break;

@@ -98,7 +98,8 @@ pub fn put_record(wake: &mut [u64], k: usize, r: Record)
 // The wait at place p leaves the queue and is told in record k.
 pub fn leave(t: &mut Cells, wake: &mut [u64], p: usize, k: usize, r: Record)
     requires { (p < wait_places) × (k < wait_places) × (wake_length ≤ length wake.old) }
-    ensures { (t.new ≡ clear_wait t.old p) × (wake.new ≡ put_record wake.old k r.ticket (answer_number r.answer) r.index) }
+    ensures { (t.new ≡ clear_wait t.old p)
+        × (wake.new ≡ put_record wake.old k r.ticket (answer_number r.answer) r.index) }
 {
     put_record(wake, k, r);
     tables::clear_wait(t, p);

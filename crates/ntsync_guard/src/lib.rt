@@ -7,7 +7,8 @@ ghost use Rattle.cells.specs.Validity.{valid_cells};
 ghost use Rattle.model.specs.Calls.{nothing_lent};
 ghost use Rattle.cells.specs.Calls.{Result as Left, guarded};
 ghost use Rattle.ntsync_guard.specs.Values.{FoundSound, LendsCells};
-ghost use Rattle.ntsync_guard.specs.Work.{OnSound, LeavesRefusals, LeavesByRule, OnSoundAndLong, LeavesRefusalsWoken, LeavesByRuleWoken, tested};
+ghost use Rattle.ntsync_guard.specs.Work.{OnSound, LeavesRefusals, LeavesByRule};
+ghost use Rattle.ntsync_guard.specs.Work.{OnSoundAndLong, LeavesRefusalsWoken, LeavesByRuleWoken, tested};
 
 use kinds::Refusal;
 use tables::Cells;

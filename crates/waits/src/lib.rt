@@ -38,8 +38,9 @@ fn bad_wait(t: &Cells, terms: Terms, list: &[u64], pad: u64) -> bool
         | !alert
 }
 
-// After a failed attempt: the time is up, or there is room in the queue, or not. kept: terms, list and time singly, here
-// and below: `wait` has the list that C lends, `act` and this one its copy, of another type.
+// After a failed attempt: the time is up, or there is room in the queue, or not.
+// kept: terms, list and time singly, here and below: `wait` has the list that C lends, the others its copy, of another
+// type.
 fn later(t: &mut Cells, terms: Terms, list: &[u64], time: u64) -> Result<Outcome, Refusal>
     requires { length list.now ≤ max_listed }
     ensures { waited_by result t.new
