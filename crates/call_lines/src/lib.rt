@@ -3,7 +3,8 @@
 // The functions are proved safe and ending, and most promise nothing more: the statements about the calls are the
 // contracts of crates/ntsync. These have a contract: `same`, `is_filled`, `is_untouched` and `is_kept` (of the
 // snapshot's cases), because "unaltered" and "rest kept" rest on them; the functions of `Terms`, `any_on` and `all_on`,
-// which fix the wait that is asked for; `told` and `then`, which hand back the cells that a call left.
+// which fix the wait that is asked for; `told` and `then`, which hand back the cells that a call left; and `number` of
+// a wait's cell, whose bound a sum needs.
 #![tactic(auto)]
 
 pub mod asked;

@@ -16,7 +16,7 @@ pub enum Answer {
 }
 
 impl Answer {
-    // Of a wait that is served, and of a mutex that is read.
+    // Of a wait that is served, a fresh one or a queued one.
     pub fn acquired(abandoned: bool) -> Answer
         ensures { answer_number result ≡ cond abandoned 4 0 }
     {
