@@ -68,7 +68,8 @@ wait_of cell = cond (eqb (cell 0) 0) free (waiting record {
 
 unfoldable pub view : List ℕ → State
 view t = record {
-  objects = tabulate object_places (λ p. object_of (in_object t p 0) (in_object t p 1) (in_object t p 2) (in_object t p 3));
+  objects = tabulate object_places
+      (λ p. object_of (in_object t p 0) (in_object t p 1) (in_object t p 2) (in_object t p 3));
   waits = tabulate wait_places (λ p. wait_of (in_wait t p));
   next = get_or t 0 0;
 }

@@ -39,7 +39,8 @@ pub data Restored : Type 0 where
 -- "The reader accepts exactly the texts that the writer can produce from sound tables in which no queued wait could be
 -- served": the state that the lines show is valid and quiet, and its snapshot is this text; "else offset 0".
 unfoldable pub judged : List ℕ → State → Restored
-judged text s = cond (all_of (valid_state s ∷ quiet s ∷ same_cells (snapshot_text s) text ∷ [])) (accepted s) (refused 0)
+judged text s = cond (all_of (valid_state s ∷ quiet s ∷ same_cells (snapshot_text s) text ∷ []))
+    (accepted s) (refused 0)
 
 -- "Anything else is .. the offset of the first line that has not the key due there .." (the text's length if it ends
 -- there: then nothing is left)
