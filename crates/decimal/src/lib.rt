@@ -68,7 +68,7 @@ fn digit_count(n: u64) -> usize
 // Not inlined, or `line` grows too large to be: each key is then copied by memmove, which include/ntsync.h says no host
 // need have, and a snapshot takes a fifth more instructions.
 #[inline(never)]
-fn put_number(buf: &mut [u8], at: usize, n: u64) -> usize
+pub fn put_number(buf: &mut [u8], at: usize, n: u64) -> usize
     requires { Room buf.old at (digits_up_to 19 n) }
     ensures { Wrote buf.old at (digits_up_to 19 n) result buf.new }
 {

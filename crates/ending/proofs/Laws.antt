@@ -22,9 +22,13 @@ pub better_fails : (t : List ℕ) {passes : Bool} (best i : ℕ) → passes ≡ 
 unfolding better
 better_fails t best i e = rw e
 
+pub better_first : (t : List ℕ) {passes : Bool} (best i : ℕ) → passes ≡ true → wait_places ≤ best → i ≡ better t (λ _. passes) best i
+unfolding better
+better_first t best i e h = rw (e, le-ltb best wait_places h)
+
 pub better_lower : (t : List ℕ) {passes : Bool} (best : Option ℕ) (i : ℕ) → passes ≡ true → lower_than t i best ≡ true → (k : ℕ) → Found best k wait_places → i ≡ better t (λ _. passes) k i
 unfolding better
-better_lower t None i e l k f = rw (e, le-ltb k wait_places (omega (arith, f)))
+better_lower t None i e l k f = better_first t k i e (omega (arith, f))
 better_lower t (Some b) i e l k f = rw (e, sym f.0, lt-ltb b wait_places f.1, l)
 
 pub better_not : (t : List ℕ) {passes : Bool} (best : Option ℕ) (i : ℕ) → passes ≡ true → lower_than t i best ≡ false → (k : ℕ) → Found best k wait_places → Found best (better t (λ _. passes) k i) wait_places

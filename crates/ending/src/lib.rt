@@ -5,7 +5,6 @@ ghost use Rattle.std.specs.Prelude.{◌≡◌, ◌≤◌, ◌<◌, ℕ, Bool, le
 ghost use Rattle.model.specs.Sizes.{wait_places, wake_length};
 ghost use Rattle.cells.specs.Waits.{better, lowest, next_wait, put_record, clear_wait};
 ghost use Rattle.cells.specs.Walk.{due_at, walked, end_cells};
-ghost use Rattle.kinds.specs.Answers.{answer_number};
 ghost use Rattle.tables.specs.Found.{Found};
 ghost use Rattle.ending.specs.Lowest.{lower_than, Tells};
 
@@ -74,11 +73,12 @@ pub fn next_due(t: &Cells, clock: u64, time: u64) -> Option<usize>
     lowest(t, |p| due(t, clock, time, p))
 }
 
-// What a wake list tells of a wait that leaves the queue.
+// What a wake list tells of a wait that leaves the queue. kept: the answer is its number, as the cell holds it. A record
+// can be written of any.
 #[derive(Clone, Copy)]
 pub struct Record {
     pub ticket: u64,
-    pub answer: Answer,
+    pub answer: u64,
     pub index: u64,
 }
 
@@ -87,11 +87,11 @@ pub struct Record {
 // clauses (whose list, what is told, how many).
 pub fn put_record(wake: &mut [u64], k: usize, r: Record)
     requires { (k < wait_places) × (wake_length ≤ length wake.old) }
-    ensures { wake.new ≡ put_record wake.old k r.ticket (answer_number r.answer) r.index }
+    ensures { wake.new ≡ put_record wake.old k r.ticket r.answer r.index }
 {
     let at = 3 * k;
     wake[at] = r.ticket;
-    wake[at + 1] = u64::from(u32::from(r.answer));
+    wake[at + 1] = r.answer;
     wake[at + 2] = r.index;
 }
 
@@ -99,7 +99,7 @@ pub fn put_record(wake: &mut [u64], k: usize, r: Record)
 pub fn leave(t: &mut Cells, wake: &mut [u64], p: usize, k: usize, r: Record)
     requires { (p < wait_places) × (k < wait_places) × (wake_length ≤ length wake.old) }
     ensures { (t.new ≡ clear_wait t.old p)
-        × (wake.new ≡ put_record wake.old k r.ticket (answer_number r.answer) r.index) }
+        × (wake.new ≡ put_record wake.old k r.ticket r.answer r.index) }
 {
     put_record(wake, k, r);
     tables::clear_wait(t, p);
@@ -118,7 +118,7 @@ pub fn end_due(t: &mut Cells, wake: &mut [u64], clock: u64, time: u64) -> usize
         let ticket = tables::ticket_at(t, p);
         let r = Record {
             ticket,
-            answer: Answer::TimedOut,
+            answer: u64::from(u32::from(Answer::TimedOut)),
             index: 0,
         };
         leave(t, wake, p, k, r);

@@ -8,8 +8,12 @@ use crate::kind::Kind;
 use crate::object::Object;
 use crate::refusal::Refusal;
 
-// What an event's numbers may be: the validity check asks `valid`.
-pub struct Event;
+// An event's flags, and what they may be: its constructor and the validity check both ask `valid`.
+#[derive(Clone, Copy)]
+pub struct Event {
+    pub signaled: u64,
+    pub manual: u64,
+}
 
 impl Event {
     // The flags of an event that is set, and of one with manual reset; else they are 0.
@@ -23,15 +27,21 @@ impl Event {
         (signaled <= Event::SET) & (manual <= Event::MANUAL)
     }
 
-    // Any number but 0 means 1, so nothing is refused; a `Result` as the other kinds' constructors give.
+    // Any number but 0 means 1, so nothing is refused.
     pub fn create(signaled: u32, manual: u32) -> Result<Object, Refusal>
         ensures { changed_by no_fields result ≡ creation an_event signaled manual }
     {
-        Ok(Object {
+        let e = Event {
+            signaled: u64::from(signaled != 0),
+            manual: u64::from(manual != 0),
+        };
+        let ok = Event::valid(e.signaled, e.manual);
+        let o = Object {
             kind: u64::from(Kind::Event),
-            count: u64::from(signaled != 0),
-            attribute: u64::from(manual != 0),
+            count: e.signaled,
+            attribute: e.manual,
             ..Object::EMPTY
-        })
+        };
+        ok.then_some(o).ok_or(Refusal::Invalid)
     }
 }

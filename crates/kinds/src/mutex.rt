@@ -8,8 +8,12 @@ use crate::kind::Kind;
 use crate::object::Object;
 use crate::refusal::Refusal;
 
-// What a mutex's numbers may be: its constructor and the validity check both ask `valid`.
-pub struct Mutex;
+// A new mutex's numbers, and what they may be: its constructor and the validity check both ask `valid`.
+#[derive(Clone, Copy)]
+pub struct Mutex {
+    pub owner: u64,
+    pub count: u64,
+}
 
 impl Mutex {
     // The highest owner number and recursion count: both have 32 bits.
@@ -37,13 +41,17 @@ impl Mutex {
     pub fn create(owner: u32, count: u32) -> Result<Object, Refusal>
         ensures { changed_by no_fields result ≡ creation a_mutex owner count }
     {
+        let m = Mutex {
+            owner: u64::from(owner),
+            count: u64::from(count),
+        };
+        let ok = Mutex::valid(m.owner, m.count, 0);
         let o = Object {
             kind: u64::from(Kind::Mutex),
-            count: u64::from(count),
-            owner: u64::from(owner),
+            count: m.count,
+            owner: m.owner,
             ..Object::EMPTY
         };
-        let ok = Mutex::valid(o.owner, o.count, o.attribute);
         ok.then_some(o).ok_or(Refusal::Invalid)
     }
 }

@@ -8,8 +8,12 @@ use crate::kind::Kind;
 use crate::object::Object;
 use crate::refusal::Refusal;
 
-// What a semaphore's numbers may be: its constructor and the validity check both ask `valid`.
-pub struct Semaphore;
+// A semaphore's numbers, and what they may be: its constructor and the validity check both ask `valid`.
+#[derive(Clone, Copy)]
+pub struct Semaphore {
+    pub count: u64,
+    pub max: u64,
+}
 
 impl Semaphore {
     // The highest maximum: counts have 32 bits.
@@ -29,13 +33,17 @@ impl Semaphore {
     pub fn create(count: u32, max: u32) -> Result<Object, Refusal>
         ensures { changed_by no_fields result ≡ creation a_semaphore count max }
     {
+        let s = Semaphore {
+            count: u64::from(count),
+            max: u64::from(max),
+        };
+        let ok = Semaphore::valid(s.count, s.max);
         let o = Object {
             kind: u64::from(Kind::Semaphore),
-            count: u64::from(count),
-            attribute: u64::from(max),
+            count: s.count,
+            attribute: s.max,
             ..Object::EMPTY
         };
-        let ok = Semaphore::valid(o.count, o.attribute);
         ok.then_some(o).ok_or(Refusal::Invalid)
     }
 }

@@ -79,7 +79,7 @@ fn read_back(tables: &mut [u64], text: &[u8]) -> Result<(), Refused>
     let t = tables.as_mut_array().ok_or(Refused::Corrupt)?;
     let mut read: Cells = [0; tables::TABLE_LENGTH];
     judge(text, &mut read)?;
-    *t = read;
+    tables::copy(t, &read);
     Ok(())
 }
 

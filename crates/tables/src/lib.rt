@@ -343,6 +343,13 @@ pub fn make(t: &mut Cells)
     t[0] = 1;
 }
 
+// All cells of other tables.
+pub fn copy(to: &mut Cells, from: &Cells)
+    ensures { to.new ≡ from.now }
+{
+    *to = *from;
+}
+
 // ---- the sizes, tied to the numbers of the meaning
 
 // kept: a function for each, since each ties one constant to one number; a general one would be given both.

@@ -51,7 +51,7 @@ pub fn occupied(t: &Cells, h: u64) -> bool
     0 < tables::named(t, h).kind
 }
 
-fn is_event(t: &Cells, h: u64) -> bool
+pub fn is_event(t: &Cells, h: u64) -> bool
     ensures { result ≡ event_at t.now h }
 {
     tables::named(t, h).is(Kind::Event)

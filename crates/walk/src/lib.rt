@@ -66,7 +66,7 @@ fn settle(
     };
     let r = Record {
         ticket,
-        answer: Answer::acquired(a.abandoned),
+        answer: u64::from(u32::from(Answer::acquired(a.abandoned))),
         index: a.index,
     };
     ending::leave(t, wake, p, told, r);

@@ -5,5 +5,5 @@ use native.Mathlib.Omega.{arith}
 use Rattle.kinds.proofs.mutex.Mutex.create.Goals as goal
 
 pub returns : goal.returns
-returns c = let a = c.args in let k = c.from.ensures in let n = c.from-2.ensures in let m = c.from-3.ensures in
+returns c = let a = c.args in let n = c.from.ensures in let m = c.from-2.ensures in let k = c.from-3.ensures in
     rw (c.ok_or.ensures.value, c.then_some.ensures) (created a_mutex a.owner a.count {valid = c.valid-ok.result} (omega arith) (omega arith) (rw (n, m) at c.valid-ok.ensures) (rw (k, n, m) refl))
