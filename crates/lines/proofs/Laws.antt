@@ -11,7 +11,7 @@ use Rattle.model.specs.Reading.{Read, good, bad, by_read, Reader, ◌>>=◌, giv
 use Rattle.model.proofs.Logic.{by_bool, by_option, differ, clash, and_split, eqb_same}
 use Rattle.model.proofs.Digits.{digits, digits_one, digits_more}
 use Rattle.model.proofs.ReadExactly.{number_exact, by_reading}
-use Rattle.lines.specs.Outcome.{either_of, figure, end_of, number_of, Told}
+use Rattle.lines.specs.Outcome.{either_of, figure, end_of, number_of, Stops, Told}
 use Rattle.lines.specs.declared.NotDue.{NotDue}
 use Rattle.std.specs.Prelude.{Result, Ok, Err}
 
@@ -197,6 +197,25 @@ pub number_of_lem : (key : String) (low high : ℕ) (t : List ℕ) → number_li
 unfolding number_line number_of line
 number_of_lem key low high t = refl
 
+-- A REFUSAL READS NOTHING: after one of `Lines::number` or `Lines::either` the lines that are left are those that were; to be
+-- read, no proof needs them
+bad_same : {A : Type 0} {t from : List ℕ} → ◌≡◌ {A = Read A} (bad t) (bad from) → from ≡ t
+bad_same h = cc
+
+module _ (t rest : List ℕ) (e : NotDue) where
+  pub number_stays : (key : List ℕ) (low high : ℕ) → Stops (number_of key low high t) rest e → rest ≡ t
+  unfolding number_of
+  number_stays key low high (h, l) = let n = leading 0 (drop (length key) t) in l ∙ by_bool (leb low n && leb n high)
+      (λ y. by_option (after (key ++ (digits n ++ (10 ∷ []))) t)
+      (λ o. bad_same (rw (y, o) at h)) (λ s o. let z : good n s ≡ bad e.from.now = rw (y, o) at h in differ cc))
+      (λ m. bad_same (rw m at h))
+
+  pub either_stays : (first second : List ℕ) → Stops (either_of first second t) rest e → rest ≡ t
+  unfolding either_of
+  either_stays first second (h, l) = l ∙ by_option (after first t)
+      (λ n. by_option (after second t) (λ m. bad_same (rw (n, m) at h)) (λ s m. let z : good 1 s ≡ bad e.from.now = rw (n, m) at h in differ cc))
+      (λ s n. let z : good 0 s ≡ bad e.from.now = rw n at h in differ cc)
+
 -- ONE READING AFTER ANOTHER, as code makes them
 module _ {A B : Type 0} (m : Reader A) (f : A → Reader B) (t : List ℕ) where
   pub seq_on : {a : A} {rest : List ℕ} → m t ≡ good a rest → (m >>= f) t ≡ f a rest
@@ -212,7 +231,7 @@ module _ {A B C : Type 0} (m : Reader A) (f : C → A) (g : A → B) (t : List �
   pub seq_last : (rest : List ℕ) (r : Result C NotDue) → Told f (m t) rest r → Told (λ v. g (f v)) ((m >>= λ a. give (g a)) t) rest r
   unfolding ◌>>=◌ give
   seq_last rest (Ok v) h = rw h
-  seq_last rest (Err e) h = rw h
+  seq_last rest (Err e) h = (rw h.0, h.1)
 
 -- two of them read as one
 module _ {A B C : Type 0} (m : Reader A) (f : A → Reader B) (g : B → Reader C) (t : List ℕ) where

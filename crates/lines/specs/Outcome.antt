@@ -23,6 +23,10 @@ number_of key low high text = let n = leading 0 (drop (length key) text) in
 unfoldable pub either_of : List ℕ → List ℕ → Reader ℕ
 either_of first second text = maybe (after first text) (maybe (after second text) (bad text) (λ rest. good 1 rest)) (λ rest. good 0 rest)
 
--- WHAT IS TOLD of a reading: the value, with the rest of the text after it, or the text from the line that is not as due
+-- what is told of a line that is not as due: the text from it on, where the lines that are left begin
+abbrev pub Stops : {A : Type 0} → Read A → List ℕ → NotDue → Type 0
+Stops read rest e = (read ≡ bad e.from.now) × (rest ≡ e.from.now)
+
+-- WHAT IS TOLD of a reading, and of the lines that are left: the value, before them, or where it stops
 abbrev pub Told : {A B : Type 0} → (B → A) → Read A → List ℕ → Result B NotDue → Type 0
-Told f read rest r = MatchResult r (λ v. read ≡ good (f v) rest) (λ e. read ≡ bad e.from.now)
+Told f read rest r = MatchResult r (λ v. read ≡ good (f v) rest) (λ e. Stops read rest e)

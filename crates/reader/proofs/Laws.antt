@@ -2,7 +2,7 @@
 use Rattle.std.proofs.Math.Seq.{take-append_seam}
 use Rattle.std.proofs.Common.{◌≡◌, ℕ, suc, ◌+◌, ◌≤◌, ◌<◌, Bool, true, false, ◌&&◌, ltb, List, [], ◌∷◌, ◌++◌, length, take, refl, sym, ap, ◌∙◌, arith, Ok, Err, subst, length-append, length-take-le}
 use Rattle.std.proofs.lemmas.List.{map-append}
-use Rattle.std.specs.Prelude.{Result, MatchResult}
+use Rattle.std.specs.Prelude.{Result, MatchResult, IfOk, ⊤}
 use Rattle.std.specs.Result.{IsErr, IsErrAnd}
 use Rattle.std.specs.Int.{from_bool}
 use Rattle.model.specs.Basics.{bit}
@@ -28,6 +28,10 @@ use Rattle.reader.specs.Values.{mode_words, mode_of, clock_words, object_from, I
 pub on_err : {V E : Type 0} (P : V → Type 0) (Q : E → Type 0) {e : E} (r : Result V E) → IsErr r × IsErrAnd r (λ x. x ≡ e) → Q e → MatchResult r P Q
 on_err P Q (Ok x) h q = absurd h.1
 on_err P Q (Err d) h q = subst Q (sym h.1) q
+
+-- and where a fact is told of a value besides
+pub on_err_and : {V E : Type 0} (P P' : V → Type 0) (Q : E → Type 0) {e : E} (r : Result V E) → IsErr r × IsErrAnd r (λ x. x ≡ e) → Q e → MatchResult r P Q × IfOk r P'
+on_err_and P P' Q r h q = (on_err P Q r h q, on_err P' (λ _. ⊤) r h tt)
 
 -- A WAIT'S TWO WORDS, as cells
 pub mode_read : (b : Bool) {m : ℕ} (t : List ℕ) {rest : List ℕ} → m ≡ from_bool b → either_of (ascii "mode=any\n") (ascii "mode=all\n") t ≡ good (bit b) rest → word_line mode_words t ≡ good (mode_of m) rest

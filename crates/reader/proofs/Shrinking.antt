@@ -1,26 +1,13 @@
 -- What a reading leaves of a text, or the text from a line that is not as due, is no longer than the text.
-use Rattle.std.proofs.Common.{◌≡◌, ℕ, zero, suc, ◌≤◌, ◌&&◌, eqb, leb, List, [], ◌∷◌, length, drop, le_refl, arith}
-use mathlib.Core.Option.{none, some}
+use Rattle.std.proofs.Common.{ℕ, zero, suc, ◌≤◌, List, [], ◌∷◌, length, le_refl, arith}
 use Prim.Native.String.{String}
 use Rattle.model.specs.Calls.{Kind, a_semaphore, a_mutex, an_event}
 use Rattle.model.specs.Snapshot.{ascii, line}
-use Rattle.model.specs.Reading.{Read, good, bad, Reader, ◌>>=◌, give, times, after, leading, number_line, word_line, flag_line, read_values, read_object, read_wait, read_snapshot}
-use Rattle.model.proofs.Logic.{by_bool, by_option, differ}
+use Rattle.model.specs.Reading.{Reader, ◌>>=◌, give, times, after, number_line, word_line, flag_line, read_values, read_object, read_wait, read_snapshot}
+use Rattle.model.proofs.Logic.{by_option}
 use Rattle.model.proofs.ReadExactly.{by_reading}
-
-abbrev pub left : {A : Type 0} → Read A → List ℕ
-left (good a rest) = rest
-left (bad from) = from
-
-abbrev pub Shrinks : {A : Type 0} → Reader A → Type 0
-Shrinks m = (t : List ℕ) → length (left (m t)) ≤ length t
-
-after_shorter : (x t rest : List ℕ) → after x t ≡ some rest → length rest ≤ length t
-unfolding after
-after_shorter [] t rest e = let z : t ≡ rest = cc in rw z (le_refl (length rest))
-after_shorter (b ∷ x) [] rest e = differ cc
-after_shorter (b ∷ x) (c ∷ t) rest e = by_bool (eqb b c)
-    (λ s. let h = after_shorter x t rest (rw s at e) in omega arith) (λ n. let z : none ≡ some rest = rw n at e in differ cc)
+use Rattle.lines.specs.Outcome.{number_of}
+use Rattle.lines.proofs.Shrinking.{Shrinks, after_shorter, number_of_shrinks}
 
 module _ {A B : Type 0} (m : Reader A) (f : A → Reader B) where
   bind_shrinks : Shrinks m → ((a : A) → Shrinks (f a)) → Shrinks (m >>= f)
@@ -33,10 +20,8 @@ unfolding give
 give_shrinks a t = le_refl (length t)
 
 pub number_shrinks : (key : String) (low high : ℕ) → Shrinks (number_line key low high)
-unfolding number_line
-number_shrinks key low high t = let n = leading 0 (drop (length (ascii key)) t) in by_bool (leb low n && leb n high)
-    (λ y. rw y (by_option (after (line key n) t) (λ o. rw o (le_refl (length t))) (λ rest o. rw o (after_shorter (line key n) t rest o))))
-    (λ f. rw f (le_refl (length t)))
+unfolding number_line number_of line
+number_shrinks key low high = number_of_shrinks (ascii key) low high
 
 word_shrinks : {A : Type 0} (ws : List (String × A)) → Shrinks (word_line ws)
 unfolding word_line

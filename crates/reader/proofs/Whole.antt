@@ -9,7 +9,8 @@ use Rattle.model.specs.RestoreTests.{body_text}
 use Rattle.model.proofs.ReadExactly.{number_exact, snapshot_exact}
 use Rattle.reader.specs.Values.{ObjectsStored, WaitsStored, AllStored, Stopped}
 use Rattle.reader.specs.Storing.{queued_from}
-use Rattle.reader.proofs.Shrinking.{Shrinks, object_shrinks, wait_shrinks, snapshot_shrinks, number_shrinks, times_shrinks}
+use Rattle.lines.proofs.Shrinking.{Shrinks}
+use Rattle.reader.proofs.Shrinking.{object_shrinks, wait_shrinks, snapshot_shrinks, number_shrinks, times_shrinks}
 
 pub stopped : (text from : List ℕ) → read_snapshot text ≡ bad from → Stopped text from
 stopped text from e = record { reads = e; within = rw e at (snapshot_shrinks text) }

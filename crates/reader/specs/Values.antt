@@ -1,5 +1,5 @@
 -- What is told of a reading, and what is stored of it.
-use Rattle.std.specs.Prelude.{◌≡◌, Bool, cond, List, [], ◌∷◌, ℕ, ◌≤◌, length, take, set, eqb, Result, MatchResult}
+use Rattle.std.specs.Prelude.{◌≡◌, Bool, cond, List, [], ◌∷◌, ℕ, ◌≤◌, length, take, set, eqb, Result, IfOk, MatchResult}
 use Prim.Native.String.{String}
 use Rattle.model.specs.Sizes.{max_listed}
 use Rattle.model.specs.Objects.{Object}
@@ -11,6 +11,7 @@ use Rattle.model.specs.RestoreTests.{rising, handles, tickets, in_order}
 use Rattle.refine.proofs.Objects.{fields_of}
 use Rattle.kinds.specs.Values.{cells_of}
 use Rattle.kinds.specs.declared.object.Object.{Object as Cells}
+use Rattle.lines.specs.Outcome.{Stops, Told}
 use Rattle.lines.specs.declared.NotDue.{NotDue}
 use Rattle.reader.specs.Storing.{stored, queued_from}
 use Rattle.tables.specs.declared.Header.{Header}
@@ -41,15 +42,15 @@ mode_of n = cond (eqb n 0) any all
 abbrev pub wait_from : Header → List ℕ → Wait
 wait_from x list = record { ticket = x.ticket; mode = mode_of x.terms.mode; owner = x.terms.owner; clock = x.terms.clock; timeout = x.terms.timeout; alert = x.terms.alert; list = take x.listed list }
 
--- THE CONTRACTS of what is read by value
+-- THE CONTRACTS of what is read by value: what is told of the reading, and of what it gives
 abbrev pub ObjectTold : Read Object → List ℕ → Result Cells NotDue → Type 0
-ObjectTold read rest r = MatchResult r (λ x. (read ≡ good (object_from x) rest) × IsObject x) (λ e. read ≡ bad e.from.now)
+ObjectTold read rest r = Told object_from read rest r × IfOk r IsObject
 
 abbrev pub EntryTold : Read (ℕ × Object) → List ℕ → Result (ℕ × Cells) NotDue → Type 0
-EntryTold read rest r = MatchResult r (λ x. (read ≡ good (x.0, object_from x.1) rest) × IsObject x.1) (λ e. read ≡ bad e.from.now)
+EntryTold read rest r = Told (λ x. (x.0, object_from x.1)) read rest r × IfOk r (λ x. IsObject x.1)
 
 abbrev pub WaitTold : Read Wait → List ℕ → List ℕ → Result Header NotDue → Type 0
-WaitTold read list rest r = MatchResult r (λ x. (read ≡ good (wait_from x list) rest) × (mode_cell (mode_of x.terms.mode) ≡ x.terms.mode) × (x.listed ≤ max_listed)) (λ e. read ≡ bad e.from.now)
+WaitTold read list rest r = Told (λ x. wait_from x list) read rest r × IfOk r (λ x. (mode_cell (mode_of x.terms.mode) ≡ x.terms.mode) × (x.listed ≤ max_listed))
 
 -- and of what is stored as it is read: the objects, or the waits, that were read are those in the tables
 pub record ObjectsStored (read : Read (List (ℕ × Object))) (t end rest : List ℕ) (in_order : Bool) : Type 0 where
@@ -59,7 +60,7 @@ pub record ObjectsStored (read : Read (List (ℕ × Object))) (t end rest : List
   pub order : in_order ≡ rising 0 (handles objects)
 
 abbrev pub ObjectsTold : Read (List (ℕ × Object)) → List ℕ → List ℕ → List ℕ → Result Bool NotDue → Type 0
-ObjectsTold read t end rest r = MatchResult r (λ o. ObjectsStored read t end rest o) (λ e. read ≡ bad e.from.now)
+ObjectsTold read t end rest r = MatchResult r (λ o. ObjectsStored read t end rest o) (λ e. Stops read rest e)
 
 pub record WaitsStored (read : Read (List Wait)) (t end rest : List ℕ) (in_order : Bool) : Type 0 where
   pub waits : List Wait
@@ -68,7 +69,7 @@ pub record WaitsStored (read : Read (List Wait)) (t end rest : List ℕ) (in_ord
   pub order : in_order ≡ rising 0 (tickets waits)
 
 abbrev pub WaitsTold : Read (List Wait) → List ℕ → List ℕ → List ℕ → Result Bool NotDue → Type 0
-WaitsTold read t end rest r = MatchResult r (λ o. WaitsStored read t end rest o) (λ e. read ≡ bad e.from.now)
+WaitsTold read t end rest r = MatchResult r (λ o. WaitsStored read t end rest o) (λ e. Stops read rest e)
 
 -- all of the text: in order or not, or a line that is not as due
 pub record AllStored (text t end : List ℕ) (fine : Bool) : Type 0 where

@@ -13,7 +13,7 @@ loop-handle-init c = none_read (number_line "obj=" 1 object_places) _ _
 
 pub returns-in_err-handle : goal.returns-in_err-handle
 unfolding number_line number_of line
-returns-in_err-handle c = on_err _ _ c.from_residual.result c.from_residual.ensures (next_bad (number_line "obj=" 1 object_places) (length c.args.list.now) _ _ c.loop-handle.handle-index _ c.loop-handle.invariant _ c.loop-handle-test.true c.in_err-handle.ensures)
+returns-in_err-handle c = on_err _ _ c.from_residual.result c.from_residual.ensures (next_bad (number_line "obj=" 1 object_places) (length c.args.list.now) _ _ c.loop-handle.handle-index _ c.loop-handle.invariant _ c.loop-handle-test.true c.in_err-handle.ensures.0, c.in_err-handle.ensures.1)
 
 pub loop-handle-preserved : goal.loop-handle-preserved
 unfolding number_line number_of line
