@@ -4,12 +4,11 @@ use mathlib.Core.Path.{◌≡◌, refl, sym, ap, ◌∙◌}
 use mathlib.Core.List.{List, [], ◌∷◌, ◌++◌, append_assoc}
 use native.Mathlib.Omega.{arith}
 use native.Mathlib.Nat.{add-zero, pow-suc}
-use lib.ListN.{length, set, take, drop, length-append}
-use Rattle.std.proofs.Common.{drop-drop}
-use lib.Seq.{sets, sets-eq, length-sets}
+use native.Mathlib.Numerals.{add-one}
+use lib.ListN.{length, get_or, set, take, drop, length-append}
+use lib.Seq.{sets, sets-eq, length-sets, length-take-le, take-suc, take_all}
 use Rattle.model.specs.Snapshot.{digits_up_to}
 use Rattle.model.proofs.Digits.{digits_one, digits_more}
-use borrow.Rule.Slice.PartMut.{put_mid}
 use Rattle.decimal.specs.declared.Writer.{Writer}
 use Rattle.decimal.specs.Text.{Room, Wrote}
 use Rattle.decimal.specs.Writing.{HasRoom, Appended}
@@ -58,9 +57,13 @@ module _ {w₀ : Writer} {whole : List ℕ} {w : Writer} (x y : List ℕ) (d : D
     done = λ b. d.done (appended_then x y a b);
   }
 
--- a text copied over a part of the buffer
-pub put_there : (buf text part : List ℕ) (at n : ℕ) → Room buf at text → n ≡ length text → part ≡ text → put_mid at n buf part ≡ sets buf at text
-put_there buf text part at n room e p = rw (p, e, drop-drop (length text) at buf) (sym (sets-eq text buf at room ∙ append_assoc (take at buf) text (drop (at + length text) buf)))
+-- one more byte of a text
+pub wrote_more : (buf text : List ℕ) (at i : ℕ) {now : List ℕ} → i < length text → now ≡ sets buf at (take i text) → set now (at + i) (get_or text i 0) ≡ sets buf at (take (i + 1) text)
+wrote_more buf text at i {now} l e = let X : List ℕ = take i text in let b : ℕ = get_or text i 0 in let k : length X ≡ i = length-take-le i text (omega arith) in
+    rw (add-one, take-suc text i 0 l, e) (ap (λ (j : ℕ). set (sets buf at X) (at + j) b) (sym k) ∙ sets_then buf X (b ∷ []) at)
+
+pub wrote_all : (buf text : List ℕ) (at i : ℕ) {now : List ℕ} → i ≡ length text → now ≡ sets buf at (take i text) → Wrote buf at text (at + i) now
+wrote_all buf text at i z e = (e ∙ ap (λ (x : List ℕ). sets buf at x) (take_all i text (omega arith)), ap (λ (j : ℕ). at + j) z)
 
 -- COUNTING: one digit, or one more than the tenth has
 pub count_one : (n : ℕ) → n < 10 → length (digits_up_to 19 n) ≡ 1
