@@ -137,7 +137,7 @@ module _ (high : ℕ) (u : List ℕ) where
 
   module _ (n : ℕ) (t : List ℕ) (r : Reached high u n t) where
     -- no further digit
-    number_is : figure t ≡ None → number_of [] 0 high u ≡ end_of n u t
+    pub number_is : figure t ≡ None → number_of [] 0 high u ≡ end_of n u t
     unfolding number_of
     number_is d = let q : leading 0 u ≡ n = r.value ∙ leading_none n t d in let a : after (digits n ++ (10 ∷ [])) u ≡ after (10 ∷ []) t = ap (λ (x : List ℕ). after (digits n ++ (10 ∷ [])) x) r.front ∙ after_same (digits n) (10 ∷ []) t in
         rw (q, leb-zero n, le-leb n high r.most, a)

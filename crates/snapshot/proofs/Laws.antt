@@ -107,7 +107,7 @@ module _ (t : List ℕ) {w : Writer} (front : w.at ≡ 0) (room : HasRoom w (sna
     body_within = written_within front body_room a
 
     module _ {sum : ℕ} (e : sum ≡ byte_sum (take v.at v.buf.now) % word32) where
-      sum_is : sum ≡ byte_sum (body_of t) % word32
+      pub sum_is : sum ≡ byte_sum (body_of t) % word32
       sum_is = e ∙ ap (λ (x : List ℕ). byte_sum x % word32) (written_front front body_room a)
 
       pub sum_due : Due w (snapshot_of t) v (line "sum=" sum)
