@@ -13,4 +13,4 @@ returns-in_err-judge c = let t = c.args.tables.now in let r = c.from_residual-in
     refused_whole t c.args.text.now a.long _ _ c.in_err-judge.ensures ∙ told_on r _ t c.from_residual-in_err-judge.ensures ∙ ap (λ u. told_by r u) (sym a.same)
 
 pub returns : goal.returns
-returns c = let a = rw c.in_ok-t.ensures.ok_part at c.as_mut_array.ensures.cases in accepted_whole c.args.tables.now c.args.text.now a.long _ c.in_ok-judge.ensures
+returns c = let a = rw c.in_ok-t.ensures.ok_part at c.as_mut_array.ensures.cases in rw c.copy.ensures (accepted_whole c.args.tables.now c.args.text.now a.long _ c.in_ok-judge.ensures)
