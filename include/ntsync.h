@@ -25,7 +25,7 @@
  * What it needs and costs; hosts/costs/check compares each figure with the archive.
  *   Platform: x86-64, System V calling convention, ELF. Links without libc but for memcpy and memset. Uses SSE registers
  *   (xmm), none wider and no x87: an interrupt handler or kernel that calls it must save them.
- *   Memory: tables 34,568 bytes, wake list 768 bytes, snapshot buffer 65,536 bytes, all the host's. The archive has 19,892
+ *   Memory: tables 34,568 bytes, wake list 768 bytes, snapshot buffer 65,536 bytes, all the host's. The archive has 19,555
  *   bytes of code and constants, no data, no bss.
  *   Stack at worst, in bytes, with the return address and the arguments that the caller pushes, without what memcpy and
  *   memset take below their return address; there is no recursion:
@@ -35,7 +35,7 @@
  *     ntsync_wait_any 2,968, ntsync_wait_all 2,968, ntsync_expire 1,256, ntsync_cancel 1,208, ntsync_snapshot 1,288,
  *     ntsync_restore 35,960 (it reads the text into cells of its own, and alters the tables only when all of it is accepted).
  *   Time, in instructions at worst of the scenarios of docs/BENCH.md: the check of all cells 47,342; a call with its check
- *   169,118 (a post that wakes 32 waits for all of 64 objects), the snapshot of full tables 270,578, its restoring 454,597.
+ *   169,118 (a post that wakes 32 waits for all of 64 objects), the snapshot of full tables 232,665, its restoring 454,597.
  *
  * Saving. What must outlive a power cut is saved as a snapshot, which ntsync_restore reads back; docs/howto/saving.md has the
  * program. The sum in its last line shows every cut and every single changed byte, but not two exchanged digits: against more

@@ -38,7 +38,7 @@ impl<'a> Writer<'a> {
         self.at = put_text(self.buf, self.at, text);
     }
 
-    // Most numbers of a snapshot have one digit: to store it here takes a third of what the call takes.
+    // Most numbers of an ordinary snapshot have one digit: to store it here takes a third of what the call takes.
     #[inline(always)]
     pub fn number(&mut self, n: u64)
         requires { HasRoom self.old (digits_up_to 19 n) }
@@ -95,8 +95,8 @@ fn digit_count(n: u64) -> usize
 }
 
 // The digits of n with no leading zeros; the place behind them.
-// Not inlined, or `line` grows too large to be: each key is then copied by memmove, which include/ntsync.h says no host
-// need have, and a snapshot takes a fifth more instructions.
+// Not inlined, since each key's `line` would have it. (With texts by copy_from_slice that brought memmove, which
+// include/ntsync.h says no host need have, and a fifth more instructions; not tried again with `put_text`.)
 #[inline(never)]
 pub fn put_number(buf: &mut [u8], at: usize, n: u64) -> usize
     requires { Room buf.old at (digits_up_to 19 n) }
