@@ -73,8 +73,8 @@ pub fn next_due(t: &Cells, clock: u64, time: u64) -> Option<usize>
     lowest(t, |p| due(t, clock, time, p))
 }
 
-// What a wake list tells of a wait that leaves the queue. kept: the answer is its number, as the cell holds it. A record
-// can be written of any.
+// What a wake list tells of a wait that leaves the queue. kept: the answer is its number, as the cell holds it, since a
+// record can be written of any answer.
 #[derive(Clone, Copy)]
 pub struct Record {
     pub ticket: u64,
