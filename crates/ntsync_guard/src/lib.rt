@@ -18,6 +18,7 @@ use validity::Sound;
 const WAKE_LENGTH: usize = 3 * tables::WAIT_PLACES;
 
 // The lent tables, where they are valid.
+#[tactic(auto, using(validity::proofs::Laws::whole_short))]
 pub fn sound(tables: &[u64]) -> Result<Sound, Refusal>
     ensures { FoundSound tables.now result }
 {

@@ -1,6 +1,6 @@
 -- What a wait's definitions come to on each way through the code.
 use Prim.Native.Nat.{ℕ, ◌+◌, ◌<◌, ◌≤◌}
-use mathlib.Core.Path.{◌≡◌, refl, sym, ap, subst, ◌∙◌}
+use mathlib.Core.Path.{◌≡◌, refl, sym, ap, ◌∙◌}
 use mathlib.Core.Bool.{Bool, true, false, not, cond, ◌&&◌, ◌||◌, or_assoc, or-true, or-false}
 use Rattle.std.specs.Prelude.{Some, None}
 use mathlib.Core.List.{List, [], ◌∷◌}
@@ -14,7 +14,7 @@ use Rattle.model.specs.Basics.{any_of}
 use Rattle.model.specs.Calls.{Lent, time_up}
 use Rattle.model.proofs.Logic.{by_bool, clash, not_twice, fault_free}
 use Rattle.cells.specs.Waits.{next_ticket, has}
-use Rattle.cells.specs.Validity.{event_at, too_few, occupied_list, repeated_list, proper_handles, proper_list, proper_alert}
+use Rattle.cells.specs.Validity.{too_few, occupied_list, repeated_list, proper_handles, proper_list, proper_alert}
 use Rattle.cells.specs.Attempt.{Tried, try_list}
 use Rattle.attempt.specs.declared.Served.{Served}
 use Rattle.attempt.specs.Values.{tried_by}
@@ -85,9 +85,6 @@ module _ (t : List ℕ) (w : Terms) (list : List ℕ) (time : ℕ) (l : Lent) wh
   Act r = r ≡ act_cells w.mode list w.owner w.clock w.alert w.timeout time t l
 
   module _ (s : Served) {u : List ℕ} (e : tried_by (Some s) u ≡ try_list t w.mode w.owner w.alert list) where
-    pub act_index : s.index ≤ length list
-    act_index = subst (λ (r : Tried). r.index ≤ length list) (sym e) (index_le t w.mode w.owner w.alert list)
-
     pub act_served : Act (answered (cond s.abandoned 4 0) s.index 0 u l)
     act_served = rw (sym e)
 
