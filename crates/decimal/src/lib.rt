@@ -88,6 +88,7 @@ fn put_digit(buf: &mut [u8], at: usize, n: u64) -> usize
 }
 
 // How many digits n has.
+#[tactic(auto, using(crate::proofs::Laws::count_one, crate::proofs::Laws::count_is))]
 fn digit_count(n: u64) -> usize
     ensures { result ≡ length (digits_up_to 19 n) }
 {

@@ -50,6 +50,7 @@ fn all_at(t: &mut Cells, p: usize) -> Option<Served>
 }
 
 // A wait that was served leaves the queue and is told, after those that have been; how many are told then.
+#[tactic(auto, using(crate::proofs::Laws::settled_left))]
 fn settle(
     t: &mut Cells,
     wake: &mut [u64],
